@@ -1,0 +1,9 @@
+pub mod Refusals
+pub mod Boards
+pub mod Wires
+pub mod Records
+pub mod Judging
+pub mod Sound
+pub mod Files
+pub mod Rules
+pub mod Breaks
