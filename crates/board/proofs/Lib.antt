@@ -1,0 +1,7 @@
+mod Pins
+mod Every
+mod References
+mod Inputs
+mod Tallying
+mod Findings
+mod Judgings

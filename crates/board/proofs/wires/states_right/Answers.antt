@@ -1,0 +1,34 @@
+use borrow.Author.Needs.{needs}
+use mathlib.Core.Path.{_≡_, refl, sym, ap, subst, _∙_}
+use mathlib.Core.Bool.{Bool, true, false, cond, _&&_}
+use mathlib.Core.List.{List, [], _∷_}
+use Prim.Native.Nat.{ℕ, _+_, _-_, _<_, _≤_}
+use native.Mathlib.Nat.{add-zero}
+use native.Mathlib.Omega.{arith}
+use lib.Dec.{ltb, eqb}
+use lib.ListN.{length, getD, drop}
+use Rattle.std.proofs.shelf.Lists.{at-drop-more, at-drop-all}
+use Rattle.std.proofs.shelf.Tests.{eq-eqb, ne-eqb}
+use Rattle.rules.specs.Wires.{all, every}
+use Rattle.rules.specs.Wires.{times}
+use Rattle.rules.specs.Judging.{times-due}
+use Rattle.board.specs.WireTables.{driven-by}
+use Rattle.board.proofs.Every.{every-yes, every-no, times-yes, times-no}
+use Rattle.board.proofs.wires.states_right.Needs as need
+
+pub returns-then-times-in-times-due : need.returns-then-times-in-times-due
+returns-then-times-in-times-due c =
+    let xs = c .args .states .now in
+    let f : ℕ → Bool = λ i. eqb (times i xs) (times-due (getD (c .args .sizes .now) i 0)) in
+    let e : f (c .loop-i .i) ≡ false = ne-eqb _ _ (λ q. c .if-times-in-times-due .taken (c .times-in .ensures ∙ q ∙ sym (c .times-due .ensures))) in
+    let a : true ≡ all (λ w. ltb w (c .args .count)) xs = c .if-not-all-below .ensures tt in
+    let n = every-no (c .args .count) f (c .loop-i .i) (omega arith) e in
+    sym (ap (λ b. b && every (c .args .count) f) (sym a) ∙ n)
+
+pub returns : need.returns
+returns c =
+    let xs = c .args .states .now in
+    let f : ℕ → Bool = λ i. eqb (times i xs) (times-due (getD (c .args .sizes .now) i 0)) in
+    let a : true ≡ all (λ w. ltb w (c .args .count)) xs = c .if-not-all-below .ensures tt in
+    let y = every-yes (c .args .count) f (λ j h. c .loop-i .inv j (omega arith)) in
+    sym (ap (λ b. b && every (c .args .count) f) (sym a) ∙ y)

@@ -1,0 +1,6 @@
+pub mod Bodies
+pub mod Layouts
+pub mod WireTables
+pub mod Summaries
+pub mod Tallies
+pub mod Decoded

@@ -1,0 +1,12 @@
+// Judging board files: a file becomes a board, or is refused by a number and a place.
+mod judging;
+mod layout;
+mod modules;
+mod occurrences;
+mod records;
+mod tables;
+mod wires;
+
+pub use judging::judge;
+pub use rules::Refusal;
+pub use tables::Judged;
