@@ -8,13 +8,14 @@ use Rattle.board.specs.declared.tables.Judged.{Judged}
 use Rattle.board.specs.Summaries.{file-of, Judged-from}
 use Rattle.board.specs.Tallies.{Started-from}
 
--- the tables are those of the file f: its records, what its modules come to, and where the cells of its occurrences begin
-pub record Decoded (f : List ℕ) (b : Judged) : Type 0 where
-  pub file : file-of b ≡ f
+-- the verdict on the file is acceptance, and the tables are the file's: its records, what its modules come to, and where the
+-- cells of its occurrences begin
+pub record Accepted (b : Judged) : Type 0 where
+  pub verdict-is : verdict (file-of b) ≡ accepted
   pub judged : Judged-from b 0
   pub started : Started-from b 0
 
--- the verdict on the file is acceptance, and the tables are the file's
-pub record Accepted (b : Judged) : Type 0 where
-  pub verdict-is : verdict (file-of b) ≡ accepted
-  pub decoded : Decoded (file-of b) b
+-- the file f, accepted and decoded
+pub record Decoded (f : List ℕ) (b : Judged) : Type 0 where
+  pub file : file-of b ≡ f
+  pub accepted : Accepted b

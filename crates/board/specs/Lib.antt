@@ -4,3 +4,4 @@ pub mod WireTables
 pub mod Summaries
 pub mod Tallies
 pub mod Decoded
+pub mod Sizes

@@ -58,6 +58,7 @@ file-of b = b .file .now
 -- the modules from number k on are judged
 pub record Judged-from (b : Judged) (k : ℕ) : Type 0 where
   pub count : b .count ≡ module-count (file-of b)
+  pub some : 1 ≤ b .count
   pub few : b .count ≤ 64
   pub short : length (file-of b) ≤ 32768
   pub modules : Modules-of (file-of b) (end-of (file-of b) 0) (module-count (file-of b)) (b .modules)

@@ -1,5 +1,7 @@
 // Judging board files: a file becomes a board, or is refused by a number and a place.
 mod judging;
+mod figures;
+mod board;
 mod layout;
 mod modules;
 mod occurrences;
@@ -7,6 +9,9 @@ mod records;
 mod tables;
 mod wires;
 
+pub use board::Board;
+pub use board::seal;
+pub use figures::Figures;
 pub use judging::judge;
 pub use rules::Refusal;
 pub use tables::Judged;

@@ -21,7 +21,7 @@ loop-k-holds c =
     let hl = c .in-Continue-layout .ensures tt in (
       refl,
       refl,
-      record { count = hl .1 .count; few = hl .1 .few; short = hl .1 .short; modules = hl .1 .modules; summaries = λ j a b. absurd (omega arith) },
+      record { count = hl .1 .count; some = hl .1 .some; few = hl .1 .few; short = hl .1 .short; modules = hl .1 .modules; summaries = λ j a b. absurd (omega arith) },
       judged-end f (c .in-Continue-layout .layout .count) (omega (arith, hl .1 .count)),
       refl,
       λ j a b. absurd (omega arith),
@@ -67,7 +67,7 @@ loop-k-again c =
     let n : b .count ≡ module-count f = j .count ∙ ap module-count e in (
       e,
       simp length-set (c .loop-k .inv .1),
-      record { count = j .count; few = j .few; short = j .short; modules = j .modules; summaries = summaries-more (file-of b) k (b .count) (b .summaries) s (omega (arith, c .loop-k .inv .1, j .few)) (j .count) (omega (arith, n, h)) g (hs .1 .0) },
+      record { count = j .count; some = j .some; few = j .few; short = j .short; modules = j .modules; summaries = summaries-more (file-of b) k (b .count) (b .summaries) s (omega (arith, c .loop-k .inv .1, j .few)) (j .count) (omega (arith, n, h)) g (hs .1 .0) },
       judged-step f k h hj ∙ m,
       simp length-set (c .loop-k .inv .4),
       starts-more (file-of b) k (b .count) (b .starts) (c .in-Continue-found .found .starts) (omega (arith, c .loop-k .inv .4, j .few, n, h)) (subst (λ x. (i : ℕ) → x ≤ i → i < b .count → Starts-of (file-of b) i (getD (b .starts) i [])) (sym z) (c .loop-k .inv .5)) (hs .1 .1),
@@ -79,4 +79,5 @@ returns c =
     let hl = c .in-Continue-layout .ensures tt in
     let z : c .loop-k .k ≡ 0 = omega arith in
     let v : verdict f ≡ accepted = passed (records-read f) (modules-judged 0 (units-of f)) (hl .0) ∙ subst (λ n. modules-judged n (drop n (units-of f)) ≡ accepted) z (c .loop-k .inv .3) in
-    (v, record { file = c .loop-k .inv .0; judged = subst (Judged-from (c .loop-k .b)) z (c .loop-k .inv .2); started = subst (Started-from (c .loop-k .b)) z (c .loop-k .inv .5) })
+    let e = c .loop-k .inv .0 in
+    (v, record { file = e; accepted = record { verdict-is = ap verdict e ∙ v; judged = subst (Judged-from (c .loop-k .b)) z (c .loop-k .inv .2); started = subst (Started-from (c .loop-k .b)) z (c .loop-k .inv .5) } })

@@ -1,0 +1,36 @@
+// A board: a file whose verdict is acceptance, with its tables. It exists only by judging, and borrows the file.
+ghost use mathlib.Core.Path.{_≡_};
+ghost use Rattle.board.specs.Decoded.{Accepted};
+ghost use Rattle.board.specs.Sizes.{Figures-of};
+use crate::figures::Figures;
+use crate::tables::Judged;
+
+#[derive(Drop)]
+pub struct Board<'f> {
+    judged: Judged<'f>,
+    ghost accepted: { ∥ Accepted judged ∥₁ },
+}
+
+// A judged file becomes a board, which carries on what judging promised of it.
+pub fn seal<'f>(judged: Judged<'f>) -> Board<'f>
+    requires { ⌜ Accepted judged ⌝ }
+    ensures { λ r. ⌜ r .judged ≡ judged .entry ⌝ }
+{
+    Board { judged }
+}
+
+impl Board<'_> {
+    pub fn figures(&self) -> Figures
+        ensures { λ r. ⌜ Figures-of (now (now (self .entry) .judged .file)) r ⌝ }
+    {
+        let top = self.judged.summaries[0];
+        Figures {
+            modules: self.judged.count,
+            inputs: top.inputs as usize,
+            outputs: top.outputs as usize,
+            cells: top.cells as usize,
+            places: top.places as usize,
+            depth: top.depth as usize,
+        }
+    }
+}
