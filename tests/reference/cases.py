@@ -3,22 +3,24 @@
 
     python3 tests/reference/cases.py            writes crates/verdicts/data and crates/verdicts/stdout
     python3 tests/reference/cases.py --check    says whether these are up to date
+    python3 tests/reference/cases.py --show N   prints case N, as `verdicts` counts them
 
 The verdicts are those of judge.py. Where a case below names its verdict, that was worked out by
 hand, and judge.py has to agree. Nothing depends on the machine or the time.
 
-data/bases.bin is a row of files: a length, two bytes, and as many bytes.
-data/cases.bin is a row of cases. All numbers are little-endian:
+data/bases.bin is a number of files, two bytes, and then each file: its length, two bytes, and its bytes.
+data/cases.bin is a number of cases, two bytes, and then each case. All numbers are little-endian:
 
-    2   the base: its number in bases.bin
+    2   the base: its number in bases.bin, from 0
     1   the verdict: 0 for accepted, or the number of the refusal
     2   the place
     only where the verdict is 0: 1 modules, 2 cells, 2 places, 1 depth
-    1   the number of edits, and for each, in rising order,
-        2   at which byte of the base
-        2   how many bytes of the base are dropped there
-        2   how many times the block is put there
+    1   the number of edits, and for each
+        2   how many bytes of the base are copied
+        2   how many bytes of the base are then dropped
+        2   how many times the block is then put there
         2   the length of the block, and as many bytes
+    what is left of the base after the last edit is copied
 """
 
 import sys
@@ -830,21 +832,29 @@ def all_cases():
 
 # ---- What is written
 
+def encoded_edits(edits):
+    row, at = bytes([len(edits)]), 0
+    for edit in edits:
+        row += b"".join(map(two_bytes, (edit.at - at, edit.drop, edit.times, len(edit.block)))) + edit.block
+        at = edit.ends()
+    return row
+
+
+def encoded_figures(data):
+    top = judge.figures(data)
+    return bytes([top.modules]) + two_bytes(top.cells) + two_bytes(top.places) + bytes([top.depth])
+
+
 def encoded(cases):
     """bases.bin and cases.bin."""
     numbers = {}
     rows = []
     for _, base, edits, data, (verdict, place) in cases:
         number = numbers.setdefault(base, len(numbers))
-        row = two_bytes(number) + bytes([verdict]) + two_bytes(place)
-        if verdict == ACCEPTED:
-            top = judge.figures(data)
-            row += bytes([top.modules]) + two_bytes(top.cells) + two_bytes(top.places) + bytes([top.depth])
-        row += bytes([len(edits)])
-        for edit in edits:
-            row += b"".join(map(two_bytes, (edit.at, edit.drop, edit.times, len(edit.block)))) + edit.block
-        rows.append(row)
-    return b"".join(two_bytes(len(base)) + base for base in numbers), b"".join(rows)
+        figures = encoded_figures(data) if verdict == ACCEPTED else b""
+        rows.append(two_bytes(number) + bytes([verdict]) + two_bytes(place) + figures + encoded_edits(edits))
+    bases = [two_bytes(len(base)) + base for base in numbers]
+    return two_bytes(len(bases)) + b"".join(bases), two_bytes(len(rows)) + b"".join(rows)
 
 
 def verdict_name(number):
@@ -869,6 +879,10 @@ def summary(cases):
 
 def main(arguments):
     cases = all_cases()
+    if arguments[1:2] == ["--show"]:
+        family, _, _, data, (verdict, place) = cases[int(arguments[2])]
+        print(f"{family}: {verdict} {verdict_name(verdict)} at {place}\n{data.hex(' ')}")
+        return 0
     bases, rows = encoded(cases)
     files = {
         CRATE / "data" / "bases.bin": bases,
