@@ -30,13 +30,17 @@ import judge
 from boards import (
     AND, BUF, CELL, EMPTY, HIGH, INPUTS_OF, LOW, NOT, PICK, XOR,
     AT_A, AT_B, AT_I, AT_KIND, AT_LISTS, AT_N, AT_O, AT_PINS, AT_REFERENCE, AT_S, AT_W,
-    Edit, append, apply_edits, board, bytes_of_record, cut_to, delete, exchange, insert, layout,
-    module, module_record, put, put_two, record, record_end, sub, two_bytes, use,
+    Edit, append, apply_edits, board, cut_to, delete, exchange, insert, layout,
+    module, put, put_two, record, record_end, sub, two_bytes, use,
 )
 from generator import Random, filler_module, random_board, random_mutation
 from judge import CUT, DRIVE, KIND, LONG, ORDER, PINS, REFER, SHAPE, SIZE, STATE, TRAIL, WIRE
 
 ACCEPTED = 0
+
+# How many files there are of each verdict, from accepted to SIZE: a change of the cases is meant to be seen.
+COUNTS = [1929, 61, 1127, 1243, 1794, 202, 701, 422, 954, 763, 846, 539, 28]
+
 CRATE = Path(__file__).resolve().parents[2] / "crates" / "verdicts"
 
 
@@ -414,7 +418,8 @@ def gates_in_order(cases):
         for pin in range(count):
             wires = [0] * count
             state = [0] if reference == CELL else []
-            for name, late in (("itself", 1), ("later", 2)):
+            # Wire 1 is its own output, and wire 2 is driven later.
+            for late in (1, 2):
                 wires[pin] = late
                 data = board(module(1, [use(reference, wires, [1]), use(HIGH, [], [2])], [1], state))
                 start = layout(data).occurrences[0][0]
@@ -573,8 +578,8 @@ def depth_cases(cases):
         cases.add(data, expect=(SIZE, 6) if 1 in order else (ACCEPTED, 0))
 
 
-def with_top(base, top):
-    """A base whose top is EMPTY, with another top."""
+def with_top(top):
+    """Another top for a base whose top is EMPTY."""
     return Edit(6, len(EMPTY), top)
 
 
@@ -587,7 +592,7 @@ def cell_cases(cases):
         return module(0, [use(sub(number))] * count, [], range(count))
 
     def top(*uses):
-        return with_top(base, module(0, uses, [], range(len(uses))))
+        return with_top(module(0, uses, [], range(len(uses))))
 
     one_cell = use(CELL, [0], [0])
     for some in (62, 63, 64):
@@ -613,7 +618,7 @@ def places_cases(cases):
 
     def top(big, small, single, *more):
         uses = [use(sub(1))] * big + [use(sub(2))] * small + [use(sub(3))] * single
-        return with_top(base, module(0, [*uses, *more]))
+        return with_top(module(0, [*uses, *more]))
 
     sums = {
         (15, 48, 0): 65535, (15, 48, 1): 65536, (15, 47, 2): 65472, (16, 0, 0): 66576, (15, 49, 0): 65600,
@@ -631,7 +636,7 @@ def places_cases(cases):
     below = [module(0, [use(sub(3))] * 64), module(0, [use(sub(4))] * 64), EMPTY]
     exact = board(EMPTY, module(0, uses), *below)
     cases.accept(exact)
-    cases.add(exact, with_top(exact, module(0, [use(sub(1))])), (SIZE, 6))
+    cases.add(exact, with_top(module(0, [use(sub(1))])), (SIZE, 6))
     cases.add(board(EMPTY, module(0, [*uses, use(sub(4))]), *below), expect=(SIZE, 15))
 
 
@@ -861,9 +866,12 @@ def verdict_name(number):
     return judge.NAMES.get(number, "accepted")
 
 
+def counts_of(cases):
+    return [sum(verdict == number for *_, (verdict, _) in cases) for number in range(13)]
+
+
 def expected_output(cases):
-    counts = [sum(verdict == number for *_, (verdict, _) in cases) for number in range(13)]
-    lines = [f"{number:2} {verdict_name(number):8} {count:6}" for number, count in enumerate(counts)]
+    lines = [f"{number:2} {verdict_name(number):8} {count:6}" for number, count in enumerate(counts_of(cases))]
     return "\n".join([*lines, f"{len(cases)} files, 0 mismatches", ""])
 
 
@@ -883,6 +891,8 @@ def main(arguments):
         family, _, _, data, (verdict, place) = cases[int(arguments[2])]
         print(f"{family}: {verdict} {verdict_name(verdict)} at {place}\n{data.hex(' ')}")
         return 0
+    if counts_of(cases) != COUNTS:
+        raise AssertionError(f"COUNTS is to be {counts_of(cases)}")
     bases, rows = encoded(cases)
     files = {
         CRATE / "data" / "bases.bin": bases,
