@@ -3,6 +3,7 @@ use board::judge;
 use board::seal;
 use std::fs;
 use std::io;
+use std::io::ErrorKind;
 
 fn report(rt: &impl Print, file: &[u8]) -> io::Result<()> {
     match judge(file) {
@@ -21,7 +22,8 @@ fn report(rt: &impl Print, file: &[u8]) -> io::Result<()> {
 fn main(rt: LibcRuntime) -> io::Result<()> {
     let file = match fs::read(&rt, "board.bin") {
         Ok(bytes) => bytes,
-        Err(_) => Vec::new(rt.alloc()),
+        Err(e) if e.kind() == ErrorKind::NotFound => Vec::new(rt.alloc()),
+        Err(e) => return Err(e),
     };
     report(&rt, file.as_slice())
 }

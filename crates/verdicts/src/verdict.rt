@@ -28,12 +28,12 @@ impl Verdict {
     pub fn of(file: &[u8]) -> Verdict {
         match board::judge(file) {
             Ok(judged) => {
-                let sealed = board::seal(judged);
+                let found = board::seal(judged).figures();
                 Verdict::Accepted(Figures {
-                    modules: sealed.modules(),
-                    cells: sealed.cells(),
-                    places: sealed.places(),
-                    depth: sealed.depth(),
+                    modules: found.modules,
+                    cells: found.cells,
+                    places: found.places,
+                    depth: found.depth,
                 })
             }
             Err(refusal) => Verdict::Refused {
