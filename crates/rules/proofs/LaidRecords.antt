@@ -1,0 +1,170 @@
+-- One record at a place: what reading finds there, and the same in words; the shapes of bodies likewise.
+use mathlib.Core.Path.{_≡_, refl, sym, ap, subst, _∙_}
+use mathlib.Core.Bool.{Bool, true, false, _&&_}
+use mathlib.Core.Logic.{_⊎_, inl, inr}
+use mathlib.Core.List.{List, [], _∷_, _++_}
+use Prim.Native.Nat.{ℕ, zero, suc, _+_, _*_, _-_, _<_, _≤_}
+use native.Mathlib.Omega.{arith}
+use lib.Dec.{eqb, leb}
+use lib.ListN.{length, getD, take, drop}
+use Rattle.std.proofs.shelf.Lists.{length-append, length-take-le, length-drop, take-append-drop, take-all, take-at, drop-at, drop-drop, getD-drop}
+use Rattle.std.proofs.shelf.Tests.{eqb-true, eqb-false, eq-eqb, leb-true, leb-false, le-leb, and-parts, and-from, cases-bool}
+use Rattle.rules.specs.declared.refusal.Refusal.{Refusal}
+use Rattle.rules.specs.declared.refusal.Refusal.the-variants.{Cut, Kind, Shape}
+use Rattle.rules.specs.Refusals.{Verdict, accepted, refused, _then_, asked}
+use Rattle.rules.specs.Boards.{Occurrence, Module}
+use Rattle.rules.specs.Records.{number-at, end-of, body, framed, read, board-shape, module-shape, occurrence-shape, inputs-in, outputs-in, wires-in, occurrences-in, states-in}
+use Rattle.rules.specs.Judging.{occurrence-in}
+use Rattle.rules.specs.Files.{word, Record-at, module-body, Occurrence-body, Occurrence-range, Module-range}
+use Rattle.rules.specs.Breaks.{Due-record, a-board, a-module, an-occurrence, kind-of, Board-shape, Module-shape, Occurrence-shape, Shape-right}
+use Rattle.rules.proofs.Verdicts.{asked-yes, passed, asked-accepted, then-left, then-right}
+
+-- Bytes
+
+number-drop : (f : List ℕ) (at i : ℕ) → number-at f (at + i) ≡ number-at (drop at f) i
+number-drop f at i =
+    let z : at + (i + 1) ≡ at + i + 1 = omega arith in
+    let p : getD (drop at f) i 0 ≡ getD f (at + i) 0 = getD-drop at f i 0 in
+    let q : getD (drop at f) (i + 1) 0 ≡ getD f (at + i + 1) 0 = getD-drop at f (i + 1) 0 ∙ ap (λ n. getD f n 0) z in
+    cc
+
+number-here : (f : List ℕ) (at : ℕ) → number-at f at ≡ number-at (drop at f) 0
+number-here f at = let z : at ≡ at + 0 = omega arith in ap (number-at f) z ∙ number-drop f at 0
+
+four-ahead : (xs : List ℕ) → 4 ≤ length xs → xs ≡ getD xs 0 0 ∷ getD xs 1 0 ∷ getD xs 2 0 ∷ getD xs 3 0 ∷ drop 4 xs
+four-ahead [] h = absurd (omega arith)
+four-ahead (a ∷ []) h = absurd (omega arith)
+four-ahead (a ∷ b ∷ []) h = absurd (omega arith)
+four-ahead (a ∷ b ∷ c ∷ []) h = absurd (omega arith)
+four-ahead (a ∷ b ∷ c ∷ d ∷ xs) h = refl
+
+-- Records
+
+-- what reading finds where a whole record stands
+pub record Found (f : List ℕ) (at kind : ℕ) (b : List ℕ) : Type 0 where
+  pub number : number-at f at ≡ length b
+  pub kind-is : number-at f (at + 2) ≡ kind
+  pub body-is : body f at ≡ b
+  pub ends : end-of f at ≡ at + (4 + length b)
+  pub within : end-of f at ≤ length f
+
+pub found : (f : List ℕ) (at kind : ℕ) (b : List ℕ) → Record-at f at kind b → Found f at kind b
+found f at kind b r =
+    let n : number-at f at ≡ length b = number-here f at ∙ ap (λ xs. number-at xs 0) (r .bytes) ∙ r .long in
+    let d : drop (at + 4) f ≡ b ++ r .rest = sym (drop-drop 4 at f) ∙ ap (drop 4) (r .bytes) in
+    let l : length f - at ≡ length (drop at f) = sym (length-drop at f) in
+    let m : length (drop at f) ≡ 4 + (length b + length (r .rest)) = ap length (r .bytes) ∙ ap (λ k. suc (suc (suc (suc k)))) (length-append b (r .rest)) ∙ omega arith in
+    record {
+      number = n;
+      kind-is = number-drop f at 2 ∙ ap (λ xs. number-at xs 2) (r .bytes) ∙ r .kind-is;
+      body-is = ap (take (number-at f at)) d ∙ take-at b (r .rest) (number-at f at) (sym n);
+      ends = omega arith;
+      within = omega arith;
+    }
+
+pub whole : (f : List ℕ) (at : ℕ) → end-of f at ≤ length f → Record-at f at (number-at f (at + 2)) (body f at)
+whole f at h =
+    let xs = drop at f in
+    let l : length xs ≡ length f - at = length-drop at f in
+    let n = number-at f at in
+    let d : drop 4 xs ≡ drop (at + 4) f = drop-drop 4 at f in
+    let m : length (drop (at + 4) f) ≡ length f - (at + 4) = length-drop (at + 4) f in
+    record {
+      length-low = getD xs 0 0;
+      length-high = getD xs 1 0;
+      kind-low = getD xs 2 0;
+      kind-high = getD xs 3 0;
+      rest = drop n (drop (at + 4) f);
+      bytes = four-ahead xs (omega arith) ∙ ap (λ ys. getD xs 0 0 ∷ getD xs 1 0 ∷ getD xs 2 0 ∷ getD xs 3 0 ∷ ys) (d ∙ sym (take-append-drop n (drop (at + 4) f)));
+      long = sym (number-here f at) ∙ sym (length-take-le n (drop (at + 4) f) (omega arith));
+      kind-is = sym (number-drop f at 2);
+    }
+
+module _ (f : List ℕ) (at due : ℕ) (shape : List ℕ → Bool) where
+  pub read-record : read f at due shape ≡ accepted → Record-at f at due (body f at) × (shape (body f at) ≡ true)
+  read-record e =
+      let C = asked (leb (end-of f at) (length f)) (Cut at) in
+      let K = asked (eqb (number-at f (at + 2)) due) (Kind at) in
+      let S = asked (shape (body f at)) (Shape at) in
+      let ck = then-left (C then K) S e in
+      (
+        subst (λ k. Record-at f at k (body f at)) (eqb-true _ due (asked-accepted _ (Kind at) (then-right C K ck))) (whole f at (leb-true _ _ (asked-accepted _ (Cut at) (then-left C K ck)))),
+        asked-accepted _ (Shape at) (then-right (C then K) S e)
+      )
+
+  pub record-read : (b : List ℕ) → Record-at f at due b → shape b ≡ true → read f at due shape ≡ accepted
+  record-read b r s =
+      let k = found f at due b r in
+      let C = asked (leb (end-of f at) (length f)) (Cut at) in
+      let K = asked (eqb (number-at f (at + 2)) due) (Kind at) in
+      passed (C then K) _ (passed C K (asked-yes _ (Cut at) (le-leb _ _ (k .within))) ∙ asked-yes _ (Kind at) (eq-eqb _ due (k .kind-is)))
+      ∙ asked-yes _ (Shape at) (ap shape (k .body-is) ∙ s)
+
+-- Shapes
+
+-- two lists that fill what is behind the first k bytes
+module _ (xs : List ℕ) (k : ℕ) where
+  split : (i o : ℕ) → length xs ≡ k + i + o → drop k xs ≡ take i (drop k xs) ++ take o (drop (k + i) xs)
+  split i o e =
+      let d : length (drop (k + i) xs) ≡ length xs - (k + i) = length-drop (k + i) xs in
+      sym (take-append-drop i (drop k xs)) ∙ ap (λ ys. take i (drop k xs) ++ ys) (drop-drop i k xs ∙ sym (take-all o (drop (k + i) xs) (omega arith)))
+
+  split-first : (i o : ℕ) → length xs ≡ k + i + o → length (take i (drop k xs)) ≡ i
+  split-first i o e = let d : length (drop k xs) ≡ length xs - k = length-drop k xs in length-take-le i (drop k xs) (omega arith)
+
+  split-second : (i o : ℕ) → length xs ≡ k + i + o → length (take o (drop (k + i) xs)) ≡ o
+  split-second i o e = let d : length (drop (k + i) xs) ≡ length xs - (k + i) = length-drop (k + i) xs in length-take-le o (drop (k + i) xs) (omega arith)
+
+  first-of : (ys zs : List ℕ) → drop k xs ≡ ys ++ zs → take (length ys) (drop k xs) ≡ ys
+  first-of ys zs e = ap (take (length ys)) e ∙ take-at ys zs (length ys) refl
+
+  second-of : (ys zs : List ℕ) → drop k xs ≡ ys ++ zs → take (length zs) (drop (k + length ys) xs) ≡ zs
+  second-of ys zs e = ap (take (length zs)) (sym (drop-drop (length ys) k xs) ∙ ap (drop (length ys)) e ∙ drop-at ys zs (length ys) refl) ∙ take-all (length zs) zs (omega arith)
+
+two-long : (xs : List ℕ) → length xs ≡ 2 → xs ≡ getD xs 0 0 ∷ getD xs 1 0 ∷ []
+two-long [] e = absurd (omega arith)
+two-long (a ∷ []) e = absurd (omega arith)
+two-long (a ∷ b ∷ []) e = refl
+two-long (a ∷ b ∷ c ∷ xs) e = absurd (omega arith)
+
+five-ahead : (xs : List ℕ) → 5 ≤ length xs → xs ≡ getD xs 0 0 ∷ getD xs 1 0 ∷ getD xs 2 0 ∷ getD xs 3 0 ∷ getD xs 4 0 ∷ drop 5 xs
+five-ahead [] h = absurd (omega arith)
+five-ahead (a ∷ xs) h = ap (λ ys. a ∷ ys) (four-ahead xs (omega arith))
+
+pub board-right : (b : List ℕ) → board-shape b ≡ true → Board-shape b
+board-right b e =
+    let p = and-parts (eqb (length b) 2) (leb 1 (number-at b 0) && leb (number-at b 0) 64) e in
+    let q = and-parts (leb 1 (number-at b 0)) (leb (number-at b 0) 64) (p .1) in
+    record { low = getD b 0 0; high = getD b 1 0; bytes = two-long b (eqb-true (length b) 2 (p .0)); some = leb-true 1 (number-at b 0) (q .0); few = leb-true (number-at b 0) 64 (q .1) }
+
+pub right-board : (b : List ℕ) → Board-shape b → board-shape b ≡ true
+right-board b s =
+    let g : board-shape (s .low ∷ s .high ∷ []) ≡ true = and-from _ _ (le-leb 1 (word (s .low) (s .high)) (s .some)) (le-leb (word (s .low) (s .high)) 64 (s .few)) in
+    ap board-shape (s .bytes) ∙ g
+
+pub occurrence-right : (b : List ℕ) → occurrence-shape b ≡ true → Occurrence-shape b
+occurrence-right b e =
+    let p = and-parts (leb 4 (length b)) _ e in
+    let q = and-parts (leb (getD b 2 0) 16) _ (p .1) in
+    let r = and-parts (leb (getD b 3 0) 16) _ (q .1) in
+    let l = eqb-true (length b) (4 + getD b 2 0 + getD b 3 0) (r .1) in
+    let i : length (occurrence-in b .ins) ≡ getD b 2 0 = split-first b 4 (getD b 2 0) (getD b 3 0) l in
+    let o : length (occurrence-in b .outs) ≡ getD b 3 0 = split-second b 4 (getD b 2 0) (getD b 3 0) l in
+    let f : b ≡ getD b 0 0 ∷ getD b 1 0 ∷ getD b 2 0 ∷ getD b 3 0 ∷ drop 4 b = four-ahead b (leb-true 4 (length b) (p .0)) in
+    let d : drop 4 b ≡ occurrence-in b .ins ++ occurrence-in b .outs = split b 4 (getD b 2 0) (getD b 3 0) l in
+    record {
+      low = getD b 0 0;
+      high = getD b 1 0;
+      ins = occurrence-in b .ins;
+      outs = occurrence-in b .outs;
+      bytes = cc;
+      few-inputs = omega (arith, leb-true (getD b 2 0) 16 (q .0));
+      few-outputs = omega (arith, leb-true (getD b 3 0) 16 (r .0));
+    }
+
+pub right-occurrence : (b : List ℕ) → Occurrence-shape b → occurrence-shape b ≡ true
+right-occurrence b s =
+    let n : length (s .ins ++ s .outs) ≡ length (s .ins) + length (s .outs) = length-append (s .ins) (s .outs) in
+    let g : occurrence-shape (s .low ∷ s .high ∷ length (s .ins) ∷ length (s .outs) ∷ (s .ins ++ s .outs)) ≡ true = and-from _ _ (le-leb _ _ (omega arith)) (and-from _ _ (le-leb _ _ (s .few-inputs)) (and-from _ _ (le-leb _ _ (s .few-outputs)) (eq-eqb _ _ (omega arith)))) in
+    ap occurrence-shape (s .bytes) ∙ g
+
