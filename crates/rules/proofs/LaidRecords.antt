@@ -168,3 +168,74 @@ right-occurrence b s =
     let g : occurrence-shape (s .low ∷ s .high ∷ length (s .ins) ∷ length (s .outs) ∷ (s .ins ++ s .outs)) ≡ true = and-from _ _ (le-leb _ _ (omega arith)) (and-from _ _ (le-leb _ _ (s .few-inputs)) (and-from _ _ (le-leb _ _ (s .few-outputs)) (eq-eqb _ _ (omega arith)))) in
     ap occurrence-shape (s .bytes) ∙ g
 
+-- the module that a body and the occurrences behind it make
+abbrev pub module-in : List ℕ → List Occurrence → Module
+module-in b os = record { inputs = inputs-in b; wires = wires-in b; outs = take (outputs-in b) (drop 5 b); occurrences = os; states = take (states-in b) (drop (5 + outputs-in b) b) }
+
+pub module-right : (b : List ℕ) → module-shape b ≡ true → Module-shape b
+module-right b e =
+    let p1 = and-parts (leb 5 (length b)) _ e in
+    let p2 = and-parts (leb (inputs-in b) 16) _ (p1 .1) in
+    let p3 = and-parts (leb (outputs-in b) 16) _ (p2 .1) in
+    let p4 = and-parts (leb (inputs-in b) (wires-in b)) _ (p3 .1) in
+    let p5 = and-parts (leb (wires-in b) 128) _ (p4 .1) in
+    let p6 = and-parts (leb (occurrences-in b) 64) _ (p5 .1) in
+    let p7 = and-parts (leb (states-in b) (occurrences-in b)) _ (p6 .1) in
+    let l = eqb-true (length b) (5 + outputs-in b + states-in b) (p7 .1) in
+    let m = module-in b [] in
+    let o : length (m .outs) ≡ outputs-in b = split-first b 5 (outputs-in b) (states-in b) l in
+    let s : length (m .states) ≡ states-in b = split-second b 5 (outputs-in b) (states-in b) l in
+    let f : b ≡ inputs-in b ∷ outputs-in b ∷ wires-in b ∷ occurrences-in b ∷ states-in b ∷ drop 5 b = five-ahead b (leb-true 5 (length b) (p1 .0)) in
+    let d : drop 5 b ≡ m .outs ++ m .states = split b 5 (outputs-in b) (states-in b) l in
+    record {
+      inputs = inputs-in b;
+      wires = wires-in b;
+      occurrences = occurrences-in b;
+      outs = m .outs;
+      states = m .states;
+      bytes = cc;
+      few-inputs = leb-true _ _ (p2 .0);
+      few-outputs = omega (arith, leb-true (outputs-in b) 16 (p3 .0));
+      inputs-wired = leb-true _ _ (p4 .0);
+      few-wires = leb-true _ _ (p5 .0);
+      few-occurrences = leb-true _ _ (p6 .0);
+      few-states = omega (arith, leb-true (states-in b) (occurrences-in b) (p7 .0));
+    }
+
+pub right-module : (b : List ℕ) → Module-shape b → module-shape b ≡ true
+right-module b s =
+    let n : length (s .outs ++ s .states) ≡ length (s .outs) + length (s .states) = length-append (s .outs) (s .states) in
+    let g : module-shape (s .inputs ∷ length (s .outs) ∷ s .wires ∷ s .occurrences ∷ length (s .states) ∷ (s .outs ++ s .states)) ≡ true = and-from _ _ (le-leb _ _ (omega arith)) (and-from _ _ (le-leb _ _ (s .few-inputs)) (and-from _ _ (le-leb _ _ (s .few-outputs)) (and-from _ _ (le-leb _ _ (s .inputs-wired)) (and-from _ _ (le-leb _ _ (s .few-wires)) (and-from _ _ (le-leb _ _ (s .few-occurrences)) (and-from _ _ (le-leb _ _ (s .few-states)) (eq-eqb _ _ (omega arith)))))))) in
+    ap module-shape (s .bytes) ∙ g
+
+abbrev pub shape-of : Due-record → List ℕ → Bool
+shape-of a-board b = board-shape b
+shape-of (a-module modules) b = module-shape b
+shape-of (an-occurrence occurrences modules) b = occurrence-shape b
+
+pub shape-right : (due : Due-record) (b : List ℕ) → shape-of due b ≡ true → Shape-right due b
+shape-right a-board b e = board-right b e
+shape-right (a-module modules) b e = module-right b e
+shape-right (an-occurrence occurrences modules) b e = occurrence-right b e
+
+pub right-shape : (due : Due-record) (b : List ℕ) → Shape-right due b → shape-of due b ≡ true
+right-shape a-board b s = right-board b s
+right-shape (a-module modules) b s = right-module b s
+right-shape (an-occurrence occurrences modules) b s = right-occurrence b s
+
+-- What is read from a body of the right shape
+
+pub occurrence-in-is : (b : List ℕ) (s : Occurrence-shape b) → occurrence-in b ≡ record { reference = word (s .low) (s .high); ins = s .ins; outs = s .outs }
+occurrence-in-is b s =
+    let bs = s .low ∷ s .high ∷ length (s .ins) ∷ length (s .outs) ∷ (s .ins ++ s .outs) in
+    let p : occurrence-in bs .ins ≡ s .ins = first-of bs 4 (s .ins) (s .outs) refl in
+    let q : occurrence-in bs .outs ≡ s .outs = second-of bs 4 (s .ins) (s .outs) refl in
+    ap occurrence-in (s .bytes) ∙ λ i. record { reference = word (s .low) (s .high); ins = p i; outs = q i }
+
+pub module-in-is : (b : List ℕ) (s : Module-shape b) (os : List Occurrence) → module-in b os ≡ record { inputs = s .inputs; wires = s .wires; outs = s .outs; occurrences = os; states = s .states }
+module-in-is b s os =
+    let bs = s .inputs ∷ length (s .outs) ∷ s .wires ∷ s .occurrences ∷ length (s .states) ∷ (s .outs ++ s .states) in
+    let p : module-in bs os .outs ≡ s .outs = first-of bs 5 (s .outs) (s .states) refl in
+    let q : module-in bs os .states ≡ s .states = second-of bs 5 (s .outs) (s .states) refl in
+    ap (λ x. module-in x os) (s .bytes) ∙ λ i. record { inputs = s .inputs; wires = s .wires; outs = p i; occurrences = os; states = q i }
+
