@@ -197,3 +197,89 @@ modules-stand f (suc n) at e =
     let l = module-found f at (module-of (unit-at f at)) k .ends in
     let t = modules-stand f n (module-end f at) (then-right R _ e) in
     ((k, subst (λ p. Row (Module-stands f) module-size p (map module-of (units-at f (module-end f at) n))) l (t .0)), t .1)
+
+-- A file whose records pass
+
+module _ (f : List ℕ) (e : records-read f ≡ accepted) where
+  abbrev checks : Verdict
+  checks = read f 0 1 board-shape then modules-read f (end-of f 0) (module-count f)
+
+  checks-pass : (read f 0 1 board-shape ≡ accepted) × (modules-read f (end-of f 0) (module-count f) ≡ accepted)
+  checks-pass = let p : checks ≡ accepted = then-right (asked (leb (length f) 32768) Long) checks e in (then-left (read f 0 1 board-shape) _ p, then-right (read f 0 1 board-shape) _ p)
+
+  pub passes-short : length f ≤ 32768
+  passes-short = leb-true (length f) 32768 (asked-accepted _ Long (then-left (asked (leb (length f) 32768) Long) checks e))
+
+  head-stands : Record-at f 0 1 (body f 0) × (board-shape (body f 0) ≡ true)
+  head-stands = read-record f 0 1 board-shape (checks-pass .0)
+
+  head-shape : Board-shape (body f 0)
+  head-shape = board-right (body f 0) (head-stands .1)
+
+  head-ends : end-of f 0 ≡ 6
+  head-ends = let l : length (body f 0) ≡ 2 = ap length (head-shape .bytes) in found f 0 1 (body f 0) (head-stands .0) .ends ∙ omega arith
+
+  length-board : length (board-of f) ≡ module-count f
+  length-board = length-map (units-of f) module-of ∙ length-units f (end-of f 0) (module-count f)
+
+  head-counts : word (head-shape .low) (head-shape .high) ≡ length (board-of f)
+  head-counts = sym (length-board ∙ ap (λ b. number-at b 0) (head-shape .bytes))
+
+  row : Row (Module-stands f) module-size 6 (board-of f)
+  row = subst (λ p. Row (Module-stands f) module-size p (board-of f)) head-ends (modules-stand f (module-count f) (end-of f 0) (checks-pass .1) .0)
+
+  stands-no : (k : ℕ) → k < length (board-of f) → Module-stands f (module-start (board-of f) k) (module-number (board-of f) k)
+  stands-no k h = row-no (Module-stands f) module-size no-module (board-of f) 6 row k h
+
+  pub passes-module-place : (k : ℕ) → k ≤ length (board-of f) → module-place f k ≡ module-start (board-of f) k
+  passes-module-place k h = ap (λ p. module-at f p k) head-ends ∙ modules-found f (board-of f) 6 row .place k h
+
+  pub passes-occurrence-place : (k : ℕ) → k < length (board-of f) → (i : ℕ) → i ≤ length (module-number (board-of f) k .occurrences) → after f (end-of f (module-place f k)) i ≡ occurrence-start (board-of f) k i
+  passes-occurrence-place k h i l =
+      ap (λ p. after f (end-of f p) i) (passes-module-place k (omega arith)) ∙ module-found f (module-start (board-of f) k) (module-number (board-of f) k) (stands-no k h) .place i l
+
+  pub passes-laid-out : Laid-out f (board-of f)
+  passes-laid-out =
+      record {
+        head-body = body f 0;
+        head = head-stands .0;
+        head-is = record { low = head-shape .low; high = head-shape .high; bytes = head-shape .bytes; modules-is = head-counts };
+        modules = λ k h. stands-no k h .stands;
+        occurrences = λ k h i l.
+          let s = row-no (Occurrence-stands f) occurrence-size no-occurrence (module-number (board-of f) k .occurrences) (module-start (board-of f) k + head-size (module-number (board-of f) k)) (stands-no k h .occurrences) i l in
+          (s .bytes, s .stands, s .reads);
+        ends = sym (passes-module-place (length (board-of f)) (omega arith)) ∙ ap (module-place f) length-board ∙ modules-stand f (module-count f) (end-of f 0) (checks-pass .1) .1;
+      }
+
+  pub passes-range : Board-range (board-of f)
+  passes-range = record { some = omega (arith, head-counts, head-shape .some); few = omega (arith, head-counts, head-shape .few); each = λ k h. stands-no k h .range }
+
+-- The records of a board pass
+
+pub laid-out-passes : (f : List ℕ) (board : List Module) → Laid-out f board → Board-range board → length f ≤ 32768 → (records-read f ≡ accepted) × (board-of f ≡ board)
+laid-out-passes f board k g h =
+    let b = k .head-body in
+    let i = k .head-is in
+    let s : Board-shape b = record { low = i .low; high = i .high; bytes = i .bytes; some = omega (arith, i .modules-is, g .some); few = omega (arith, i .modules-is, g .few) } in
+    let a = found f 0 1 b (k .head) in
+    let l : length b ≡ 2 = ap length (i .bytes) in
+    let z : end-of f 0 ≡ 6 = a .ends ∙ omega arith in
+    let n : module-count f ≡ length board = ap (λ x. number-at x 0) (a .body-is ∙ i .bytes) ∙ i .modules-is in
+    let r : Row (Module-stands f) module-size 6 board =
+      no-row (Module-stands f) module-size no-module board 6 λ j q.
+        let m = module-number board j in
+        record {
+          stands = k .modules j q;
+          range = g .each j q;
+          occurrences = no-row (Occurrence-stands f) occurrence-size no-occurrence (m .occurrences) (module-start board j + head-size m) λ x y.
+            let t = k .occurrences j q x y in
+            record { bytes = t .0; stands = t .1; reads = t .2; range = g .each j q .each x y };
+        } in
+    let t = modules-found f board 6 r in
+    (
+      passed (asked (leb (length f) 32768) Long) _ (asked-yes _ Long (le-leb (length f) 32768 h))
+      ∙ passed (read f 0 1 board-shape) _ (record-read f 0 1 board-shape b (k .head) (right-board b s))
+      ∙ (λ j. modules-read f (z j) (n j))
+      ∙ t .pass (k .ends),
+      (λ j. map module-of (units-at f (z j) (n j))) ∙ t .are
+    )
