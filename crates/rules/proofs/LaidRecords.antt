@@ -80,17 +80,17 @@ whole f at h =
       kind-is = sym (number-drop f at 2);
     }
 
+pub framed-record : (f : List ℕ) (at due : ℕ) → framed f at due ≡ accepted → Record-at f at due (body f at)
+framed-record f at due e =
+    let C = asked (leb (end-of f at) (length f)) (Cut at) in
+    let K = asked (eqb (number-at f (at + 2)) due) (Kind at) in
+    subst (λ k. Record-at f at k (body f at)) (eqb-true _ due (asked-accepted _ (Kind at) (then-right C K e))) (whole f at (leb-true _ _ (asked-accepted _ (Cut at) (then-left C K e))))
+
 module _ (f : List ℕ) (at due : ℕ) (shape : List ℕ → Bool) where
   pub read-record : read f at due shape ≡ accepted → Record-at f at due (body f at) × (shape (body f at) ≡ true)
   read-record e =
-      let C = asked (leb (end-of f at) (length f)) (Cut at) in
-      let K = asked (eqb (number-at f (at + 2)) due) (Kind at) in
       let S = asked (shape (body f at)) (Shape at) in
-      let ck = then-left (C then K) S e in
-      (
-        subst (λ k. Record-at f at k (body f at)) (eqb-true _ due (asked-accepted _ (Kind at) (then-right C K ck))) (whole f at (leb-true _ _ (asked-accepted _ (Cut at) (then-left C K ck)))),
-        asked-accepted _ (Shape at) (then-right (C then K) S e)
-      )
+      (framed-record f at due (then-left (framed f at due) S e), asked-accepted _ (Shape at) (then-right (framed f at due) S e))
 
   pub record-read : (b : List ℕ) → Record-at f at due b → shape b ≡ true → read f at due shape ≡ accepted
   record-read b r s =

@@ -3,3 +3,4 @@ pub mod Reading
 pub mod Modules
 pub mod LaidRecords
 pub mod Laid
+pub mod Dues
