@@ -1,23 +1,23 @@
 -- A file whose records pass is the records of its board laid end to end, and the other way round.
 use mathlib.Core.Path.{_≡_, refl, sym, ap, subst, _∙_}
-use mathlib.Core.Bool.{Bool, true, false}
+use mathlib.Core.Bool.{true}
 use mathlib.Core.List.{List, [], _∷_, _++_, map}
-use Prim.Native.Nat.{ℕ, zero, suc, _+_, _-_, _<_, _≤_}
+use Prim.Native.Nat.{ℕ, zero, suc, _+_, _<_, _≤_}
 use native.Mathlib.Omega.{arith}
-use lib.Dec.{eqb, leb}
-use lib.ListN.{length, getD, take, drop}
+use lib.Dec.{leb}
+use lib.ListN.{length, getD, take}
 use Rattle.std.proofs.shelf.Lists.{length-append, length-map, getD-map, getD-drop, take-all}
 use Rattle.std.proofs.shelf.Tests.{eqb-true, eq-eqb, leb-true, le-leb}
 use Rattle.rules.specs.declared.refusal.Refusal.the-variants.{Long, Trail}
-use Rattle.rules.specs.Refusals.{Verdict, accepted, refused, _then_, asked}
-use Rattle.rules.specs.Boards.{Occurrence, Module, no-occurrence, no-module, module-number, occurrence-no, sum-of}
+use Rattle.rules.specs.Refusals.{Verdict, accepted, _then_, asked}
+use Rattle.rules.specs.Boards.{Occurrence, Module, no-occurrence, no-module, module-number, sum-of}
 use Rattle.rules.specs.Records.{number-at, end-of, body, read, after, uses, module-end, module-at, module-place, module-count, board-shape, module-shape, occurrence-shape, occurrences-read, module-read, modules-read, records-read, occurrences-in}
 use Rattle.rules.specs.Judging.{Placed-occurrence, Placed-module, occurrence-in, occurrence-at, occurrences-of, module-of, placed-at, unit-at, units-at, units-of, unit-no, board-of}
-use Rattle.rules.specs.Files.{word, Record-at, Board-body, module-body, Occurrence-body, occurrence-size, head-size, module-size, module-start, occurrence-start, Laid-out, Occurrence-range, Module-range, Board-range}
+use Rattle.rules.specs.Files.{word, Record-at, module-body, Occurrence-body, occurrence-size, head-size, module-size, module-start, occurrence-start, Laid-out, Occurrence-range, Module-range, Board-range}
 use Rattle.rules.specs.Breaks.{Board-shape, Module-shape, Occurrence-shape}
 use Rattle.rules.proofs.Verdicts.{asked-yes, passed, asked-accepted, then-left, then-right}
 use Rattle.rules.proofs.Modules.{length-units, units-more}
-use Rattle.rules.proofs.LaidRecords.{Found, found, read-record, record-read, board-right, right-board, occurrence-right, right-occurrence, module-in, module-right, right-module, occurrence-in-is, module-in-is}
+use Rattle.rules.proofs.LaidRecords.{found, read-record, record-read, board-right, right-board, occurrence-right, right-occurrence, module-in, module-right, right-module, occurrence-in-is, module-in-is}
 
 -- Things one behind another, each of its own size
 
@@ -36,12 +36,11 @@ module _ {X : Type 0} (P : ℕ → X → Type 0) (size : X → ℕ) (d : X) wher
   no-row : (xs : List X) (at : ℕ) → ((i : ℕ) → i < length xs → P (at + sum-of size (take i xs)) (getD xs i d)) → Row P size at xs
   no-row [] at h = tt
   no-row (x ∷ xs) at h =
-      let z : at + 0 ≡ at = omega arith in
-      (
+      let z : at + 0 ≡ at = omega arith in (
         subst (λ n. P n x) z (h 0 (omega arith)),
         no-row xs (at + size x) λ i l.
-          let y : at + (size x + sum-of size (take i xs)) ≡ at + size x + sum-of size (take i xs) = omega arith in
-          subst (λ n. P n (getD xs i d)) y (h (suc i) (omega arith))
+            let y : at + (size x + sum-of size (take i xs)) ≡ at + size x + sum-of size (take i xs) = omega arith in
+            subst (λ n. P n (getD xs i d)) y (h (suc i) (omega arith)),
       )
 
 -- What stands at a place
@@ -107,7 +106,7 @@ module-found f at m k =
     let os = m .occurrences in
     let g = k .range in
     let s : Module-shape b =
-      record { inputs = m .inputs; wires = m .wires; occurrences = length os; outs = m .outs; states = m .states; bytes = refl; few-inputs = g .inputs; few-outputs = g .outputs; inputs-wired = g .inputs-wired; few-wires = g .wires; few-occurrences = g .occurrences; few-states = g .states } in
+    record { inputs = m .inputs; wires = m .wires; occurrences = length os; outs = m .outs; states = m .states; bytes = refl; few-inputs = g .inputs; few-outputs = g .outputs; inputs-wired = g .inputs-wired; few-wires = g .wires; few-occurrences = g .occurrences; few-states = g .states } in
     let h = found f at 2 b (k .stands) in
     let n : length (m .outs ++ m .states) ≡ length (m .outs) + length (m .states) = length-append (m .outs) (m .states) in
     let e : end-of f at ≡ at + head-size m = h .ends ∙ omega (arith, n) in
@@ -198,6 +197,30 @@ modules-stand f (suc n) at e =
     let t = modules-stand f n (module-end f at) (then-right R _ e) in
     ((k, subst (λ p. Row (Module-stands f) module-size p (map module-of (units-at f (module-end f at) n))) l (t .0)), t .1)
 
+-- The units of a file, by number
+
+placed-no : (f : List ℕ) (at n i : ℕ) (d : Placed-occurrence) → i < n → getD (placed-at f at n) i d ≡ occurrence-at f (after f at i)
+unfolding placed-at after
+placed-no f at zero i d h = absurd (omega arith)
+placed-no f at (suc n) zero d h = refl
+placed-no f at (suc n) (suc i) d h = placed-no f (end-of f at) n i d (omega arith)
+
+length-board : (f : List ℕ) → length (board-of f) ≡ module-count f
+length-board f = length-map (units-of f) module-of ∙ length-units f (end-of f 0) (module-count f)
+
+pub unit-is : (f : List ℕ) (k : ℕ) (d : Placed-module) → k < length (board-of f) → getD (units-of f) k d ≡ unit-no f k
+unit-is f k d h =
+    let z : k ≡ k + 0 = omega arith in
+    ap (λ j. getD (units-of f) j d) z ∙ sym (getD-drop k (units-of f) 0 d) ∙ ap (λ us. getD us 0 d) (units-more f k (omega (arith, length-board f)))
+
+pub module-is : (f : List ℕ) (k : ℕ) → k < length (board-of f) → module-number (board-of f) k ≡ module-of (unit-no f k)
+module-is f k h = getD-map module-of (units-of f) k (unit-no f 0) no-module (omega (arith, length-map (units-of f) module-of)) ∙ ap module-of (unit-is f k (unit-no f 0) h)
+
+uses-are : (f : List ℕ) (k : ℕ) → k < length (board-of f) → length (module-number (board-of f) k .occurrences) ≡ uses f (module-place f k)
+uses-are f k h =
+    let ps = unit-no f k .placed in
+    ap (λ m. length (m .occurrences)) (module-is f k h) ∙ length-map ps _ ∙ length-placed f (end-of f (module-place f k)) (uses f (module-place f k))
+
 -- A file whose records pass
 
 module _ (f : List ℕ) (e : records-read f ≡ accepted) where
@@ -219,11 +242,8 @@ module _ (f : List ℕ) (e : records-read f ≡ accepted) where
   head-ends : end-of f 0 ≡ 6
   head-ends = let l : length (body f 0) ≡ 2 = ap length (head-shape .bytes) in found f 0 1 (body f 0) (head-stands .0) .ends ∙ omega arith
 
-  length-board : length (board-of f) ≡ module-count f
-  length-board = length-map (units-of f) module-of ∙ length-units f (end-of f 0) (module-count f)
-
   head-counts : word (head-shape .low) (head-shape .high) ≡ length (board-of f)
-  head-counts = sym (length-board ∙ ap (λ b. number-at b 0) (head-shape .bytes))
+  head-counts = sym (length-board f ∙ ap (λ b. number-at b 0) (head-shape .bytes))
 
   row : Row (Module-stands f) module-size 6 (board-of f)
   row = subst (λ p. Row (Module-stands f) module-size p (board-of f)) head-ends (modules-stand f (module-count f) (end-of f 0) (checks-pass .1) .0)
@@ -238,6 +258,10 @@ module _ (f : List ℕ) (e : records-read f ≡ accepted) where
   passes-occurrence-place k h i l =
       ap (λ p. after f (end-of f p) i) (passes-module-place k (omega arith)) ∙ module-found f (module-start (board-of f) k) (module-number (board-of f) k) (stands-no k h) .place i l
 
+  pub passes-placed : (k : ℕ) → k < length (board-of f) → (i : ℕ) → i < length (module-number (board-of f) k .occurrences) → (d : Placed-occurrence) → getD (unit-no f k .placed) i d .place ≡ occurrence-start (board-of f) k i
+  passes-placed k h i l d =
+      ap (λ p. p .place) (placed-no f (end-of f (module-place f k)) (uses f (module-place f k)) i d (omega (arith, uses-are f k h))) ∙ passes-occurrence-place k h i (omega arith)
+
   pub passes-laid-out : Laid-out f (board-of f)
   passes-laid-out =
       record {
@@ -246,9 +270,9 @@ module _ (f : List ℕ) (e : records-read f ≡ accepted) where
         head-is = record { low = head-shape .low; high = head-shape .high; bytes = head-shape .bytes; modules-is = head-counts };
         modules = λ k h. stands-no k h .stands;
         occurrences = λ k h i l.
-          let s = row-no (Occurrence-stands f) occurrence-size no-occurrence (module-number (board-of f) k .occurrences) (module-start (board-of f) k + head-size (module-number (board-of f) k)) (stands-no k h .occurrences) i l in
-          (s .bytes, s .stands, s .reads);
-        ends = sym (passes-module-place (length (board-of f)) (omega arith)) ∙ ap (module-place f) length-board ∙ modules-stand f (module-count f) (end-of f 0) (checks-pass .1) .1;
+            let s = row-no (Occurrence-stands f) occurrence-size no-occurrence (module-number (board-of f) k .occurrences) (module-start (board-of f) k + head-size (module-number (board-of f) k)) (stands-no k h .occurrences) i l in
+            (s .bytes, s .stands, s .reads);
+        ends = sym (passes-module-place (length (board-of f)) (omega arith)) ∙ ap (module-place f) (length-board f) ∙ modules-stand f (module-count f) (end-of f 0) (checks-pass .1) .1;
       }
 
   pub passes-range : Board-range (board-of f)
@@ -266,20 +290,19 @@ laid-out-passes f board k g h =
     let z : end-of f 0 ≡ 6 = a .ends ∙ omega arith in
     let n : module-count f ≡ length board = ap (λ x. number-at x 0) (a .body-is ∙ i .bytes) ∙ i .modules-is in
     let r : Row (Module-stands f) module-size 6 board =
-      no-row (Module-stands f) module-size no-module board 6 λ j q.
-        let m = module-number board j in
-        record {
-          stands = k .modules j q;
-          range = g .each j q;
-          occurrences = no-row (Occurrence-stands f) occurrence-size no-occurrence (m .occurrences) (module-start board j + head-size m) λ x y.
-            let t = k .occurrences j q x y in
-            record { bytes = t .0; stands = t .1; reads = t .2; range = g .each j q .each x y };
-        } in
-    let t = modules-found f board 6 r in
-    (
+    no-row (Module-stands f) module-size no-module board 6 λ j q.
+    let m = module-number board j in
+    record {
+      stands = k .modules j q;
+      range = g .each j q;
+      occurrences = no-row (Occurrence-stands f) occurrence-size no-occurrence (m .occurrences) (module-start board j + head-size m) λ x y.
+          let t = k .occurrences j q x y in
+          record { bytes = t .0; stands = t .1; reads = t .2; range = g .each j q .each x y };
+    } in
+    let t = modules-found f board 6 r in (
       passed (asked (leb (length f) 32768) Long) _ (asked-yes _ Long (le-leb (length f) 32768 h))
-      ∙ passed (read f 0 1 board-shape) _ (record-read f 0 1 board-shape b (k .head) (right-board b s))
-      ∙ (λ j. modules-read f (z j) (n j))
-      ∙ t .pass (k .ends),
-      (λ j. map module-of (units-at f (z j) (n j))) ∙ t .are
+          ∙ passed (read f 0 1 board-shape) _ (record-read f 0 1 board-shape b (k .head) (right-board b s))
+          ∙ (λ j. modules-read f (z j) (n j))
+          ∙ t .pass (k .ends),
+      (λ j. map module-of (units-at f (z j) (n j))) ∙ t .are,
     )

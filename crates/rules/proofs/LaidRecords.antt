@@ -1,22 +1,20 @@
 -- One record at a place: what reading finds there, and the same in words; the shapes of bodies likewise.
 use mathlib.Core.Path.{_≡_, refl, sym, ap, subst, _∙_}
-use mathlib.Core.Bool.{Bool, true, false, _&&_}
-use mathlib.Core.Logic.{_⊎_, inl, inr}
+use mathlib.Core.Bool.{Bool, true, _&&_}
 use mathlib.Core.List.{List, [], _∷_, _++_}
-use Prim.Native.Nat.{ℕ, zero, suc, _+_, _*_, _-_, _<_, _≤_}
+use Prim.Native.Nat.{ℕ, suc, _+_, _-_, _≤_}
 use native.Mathlib.Omega.{arith}
 use lib.Dec.{eqb, leb}
 use lib.ListN.{length, getD, take, drop}
 use Rattle.std.proofs.shelf.Lists.{length-append, length-take-le, length-drop, take-append-drop, take-all, take-at, drop-at, drop-drop, getD-drop}
-use Rattle.std.proofs.shelf.Tests.{eqb-true, eqb-false, eq-eqb, leb-true, leb-false, le-leb, and-parts, and-from, cases-bool}
-use Rattle.rules.specs.declared.refusal.Refusal.{Refusal}
+use Rattle.std.proofs.shelf.Tests.{eqb-true, eq-eqb, leb-true, le-leb, and-parts, and-from}
 use Rattle.rules.specs.declared.refusal.Refusal.the-variants.{Cut, Kind, Shape}
-use Rattle.rules.specs.Refusals.{Verdict, accepted, refused, _then_, asked}
+use Rattle.rules.specs.Refusals.{accepted, _then_, asked}
 use Rattle.rules.specs.Boards.{Occurrence, Module}
 use Rattle.rules.specs.Records.{number-at, end-of, body, framed, read, board-shape, module-shape, occurrence-shape, inputs-in, outputs-in, wires-in, occurrences-in, states-in}
 use Rattle.rules.specs.Judging.{occurrence-in}
-use Rattle.rules.specs.Files.{word, Record-at, module-body, Occurrence-body, Occurrence-range, Module-range}
-use Rattle.rules.specs.Breaks.{Due-record, a-board, a-module, an-occurrence, kind-of, Board-shape, Module-shape, Occurrence-shape, Shape-right}
+use Rattle.rules.specs.Files.{word, Record-at}
+use Rattle.rules.specs.Breaks.{Due-record, a-board, a-module, an-occurrence, Board-shape, Module-shape, Occurrence-shape, Shape-right}
 use Rattle.rules.proofs.Verdicts.{asked-yes, passed, asked-accepted, then-left, then-right}
 
 -- Bytes
@@ -238,4 +236,3 @@ module-in-is b s os =
     let p : module-in bs os .outs ≡ s .outs = first-of bs 5 (s .outs) (s .states) refl in
     let q : module-in bs os .states ≡ s .states = second-of bs 5 (s .outs) (s .states) refl in
     ap (λ x. module-in x os) (s .bytes) ∙ λ i. record { inputs = s .inputs; wires = s .wires; outs = p i; occurrences = os; states = q i }
-
