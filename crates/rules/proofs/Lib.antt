@@ -4,3 +4,4 @@ pub mod Modules
 pub mod LaidRecords
 pub mod Laid
 pub mod Dues
+pub mod Exactly
