@@ -1,3 +1,4 @@
 pub mod Verdicts
 pub mod Reading
 pub mod Modules
+pub mod Sounds
