@@ -2,3 +2,4 @@ pub mod Verdicts
 pub mod Reading
 pub mod Modules
 pub mod Sounds
+pub mod Reaching
