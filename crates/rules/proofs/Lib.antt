@@ -3,3 +3,4 @@ pub mod Reading
 pub mod Modules
 pub mod Sounds
 pub mod Reaching
+pub mod Keeping

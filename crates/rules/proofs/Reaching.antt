@@ -25,8 +25,14 @@ use Rattle.rules.proofs.Modules.{design-low, design-high}
 pub at-later : (x : ℕ) (xs : List ℕ) (p y : ℕ) → At xs p y → At (x ∷ xs) (suc p) y
 at-later x xs p y a = (suc-le-suc (a .0), a .1)
 
+pub at-here : (x : ℕ) (xs : List ℕ) → At (x ∷ xs) 0 x
+at-here x xs = (suc-le-suc (omega arith), refl)
+
+pub at-back : (x : ℕ) (xs : List ℕ) (p y : ℕ) → At (x ∷ xs) (suc p) y → At xs p y
+at-back x xs p y a = (le-of-suc-le-suc (a .0), a .1)
+
 pub in-here : (x : ℕ) (xs : List ℕ) → In (x ∷ xs) x
-in-here x xs = (0, (suc-le-suc (omega arith), refl))
+in-here x xs = (0, at-here x xs)
 
 pub in-later : (x : ℕ) (xs : List ℕ) (y : ℕ) → In xs y → In (x ∷ xs) y
 in-later x xs y i = (suc (i .0), at-later x xs (i .0) y (i .1))
@@ -39,7 +45,7 @@ in-cases x xs y i = by (i .0) (i .1)
   where
     by : (p : ℕ) → At (x ∷ xs) p y → (y ≡ x) ⊎ In xs y
     by zero a = inl (sym (a .1))
-    by (suc p) a = inr (p, (le-of-suc-le-suc (a .0), a .1))
+    by (suc p) a = inr (p, at-back x xs p y a)
 
 pub in-All : (P : ℕ → Type 0) (xs : List ℕ) → All P xs → (y : ℕ) → In xs y → P y
 in-All P [] k y i = absurd (in-none y i)
@@ -88,7 +94,7 @@ in-picked t [] y p a e = absurd (not-suc-le-zero (a .0))
 in-picked t (x ∷ xs) y zero a e = let rest = picked (λ k. t (suc k)) xs in subst (λ b. In (cond b (x ∷ rest) rest) y) (sym e) (subst (In (x ∷ rest)) (a .1) (in-here x rest))
 in-picked t (x ∷ xs) y (suc p) a e =
     let rest = picked (λ k. t (suc k)) xs in
-    let r = in-picked (λ k. t (suc k)) xs y p (le-of-suc-le-suc (a .0), a .1) e in
+    let r = in-picked (λ k. t (suc k)) xs y p (at-back x xs p y a) e in
     elim (t 0) as (λ b. In (cond b (x ∷ rest) rest) y) [ true ↦ in-later x rest y r | false ↦ r ]
 
 pub through-in : (f : ℕ → ℕ → Bool) (q : Option Part) (xs : List ℕ) (y : ℕ) → In (through-of f q xs) y → (p : ℕ) × At xs p y × (through-input f q p ≡ true)
