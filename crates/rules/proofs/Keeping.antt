@@ -10,10 +10,12 @@ use lib.Dec.{eqb, leb, ltb}
 use lib.ListN.{length, getD, take, drop}
 use Rattle.std.specs.declared.option.Option.{Option}
 use Rattle.std.specs.declared.option.Option.the-variants.{Some, None}
+use Rattle.std.proofs.shelf.Lists.{take-all}
 use Rattle.std.proofs.shelf.Tests.{eqb-true, eq-eqb, ne-eqb, leb-true, le-leb, ltb-true, lt-ltb, le-ltb, and-parts, and-from, not-true, not-from-false, both-ways, cases-eq, cases-lt, cases-bool, cond-true, cond-false}
 use Rattle.gates.specs.declared.Part.{Part}
 use Rattle.gates.specs.declared.Part.the-variants.{Gate as gate, Cell as cell, Module as module-no}
-use Rattle.rules.specs.Boards.{Occurrence, no-occurrence, Module, module-number, part, Design, absent, node, present, in-count, out-wires, design-number, cells-at, inputs-due, outputs-due}
+use Rattle.rules.specs.Refusals.{number-of}
+use Rattle.rules.specs.Boards.{Occurrence, no-occurrence, Module, module-number, part, Design, absent, node, present, in-count, out-wires, design-number, cells, cells-at, depth, places, inputs-due, outputs-due}
 use Rattle.rules.specs.Wires.{all, every, times, mark, drive, drive-all, fresh, through-of, through}
 use Rattle.rules.specs.Judging.{known, times-due}
 use Rattle.rules.specs.Sound.{All, Sound}
@@ -25,6 +27,9 @@ use Rattle.rules.proofs.Reaching.{at-here, at-later, at-back, in-here, in-late
 
 eqb-is : (a b : ℕ) → (eqb a b ≡ true) ↔ (a ≡ b)
 eqb-is a b = (eqb-true a b, eq-eqb a b)
+
+leb-is : (a b : ℕ) → (leb a b ≡ true) ↔ (a ≤ b)
+leb-is a b = (leb-true a b, le-leb a b)
 
 and-is : (a b : Bool) (A B : Type 0) → (a ≡ true) ↔ A → (b ≡ true) ↔ B → ((a && b) ≡ true) ↔ (A × B)
 and-is a b A B f g = (λ e. let p = and-parts a b e in (f .0 (p .0), g .0 (p .1)), λ h. and-from a b (f .1 (h .0)) (g .1 (h .1)))
@@ -188,3 +193,71 @@ driven-is board k i w =
     let os = module-number board k .occurrences in
     ( λ e. elim (ahead-parts os (λ x. ltb x n) i w e) [ inl a ↦ inl (ltb-true w n a) | inr a ↦ inr a ]
     , λ d. ahead-from os (λ x. ltb x n) i w (elim d [ inl a ↦ inl (lt-ltb w n a) | inr a ↦ inr a ]))
+
+-- Each test is its rule
+
+module _ (board : List Module) (k : ℕ) where
+  reference-is : (q : Option Part) → (known (behind board k) q ≡ true) ↔ Reference-right board k q
+  reference-is (Some (gate g)) = (λ e. tt, λ h. refl)
+  reference-is (Some cell) = (λ e. tt, λ h. refl)
+  reference-is (Some (module-no j)) =
+      ( λ e.
+          elim (cases-within k j (length board)) [
+            inl h ↦ h
+          | inr h ↦ absurd (both-ways (present (behind board k j)) (ap present (behind-none board k j h)) e)
+          ]
+      , λ h. ap present (behind-is board k j (h .0) (h .1)))
+  reference-is None = (λ e. both-ways false refl e, λ h. absurd h)
+
+  pins-is : (q : Option Part) (ins outs : ℕ) → Reference-right board k q → ((eqb ins (inputs-due (behind board k) q) && eqb outs (length (outputs-due (behind board k) q))) ≡ true) ↔ Pins-right board q ins outs
+  pins-is (Some (gate g)) ins outs r = and-is _ _ _ _ (eqb-is ins _) (eqb-is outs 1)
+  pins-is (Some cell) ins outs r = and-is _ _ _ _ (eqb-is ins 1) (eqb-is outs 1)
+  pins-is (Some (module-no j)) ins outs r =
+      let e = behind-is board k j (r .0) (r .1) in
+      subst (λ d. ((eqb ins (in-count d) && eqb outs (length (out-wires d))) ≡ true) ↔ Pins-right board (Some (module-no j)) ins outs) (sym e) (and-is _ _ _ _ (eqb-is ins _) (eqb-is outs _))
+  pins-is None ins outs r = absurd r
+
+  drive-is : (i : ℕ) (ws : List ℕ) → (fresh ws (driven-ahead (module-number board k) i) ≡ true) ↔ (((w : ℕ) → In ws w → Driven board k i w → ⊥) × Distinct ws)
+  drive-is i ws =
+      let dr = driven-ahead (module-number board k) i in
+      ( λ e. let a = fresh-words ws dr e in (λ w j d. a .0 w j (driven-is board k i w .1 d), a .1)
+      , λ h. words-fresh ws dr (λ w j d. h .0 w j (driven-is board k i w .0 d)) (h .1))
+
+  module _ (above : (j : ℕ) → k < j → j < length board → Sound (design-number board j)) where
+    through-input-is : (q : Option Part) → Reference-right board k q → (p : ℕ) → (through-input (λ j. through (behind board k j)) q p ≡ true) ↔ Through-input board q p
+    through-input-is (Some (gate g)) r p = (λ e. tt, λ h. refl)
+    through-input-is (Some cell) r p = (λ e. both-ways false refl e, λ h. absurd h)
+    through-input-is (Some (module-no j)) r p =
+        subst (λ d. (through d p ≡ true) ↔ Through-input board (Some (module-no j)) p) (sym (behind-is board k j (r .0) (r .1))) (through-is board j (above j (r .0) (r .1)) p)
+    through-input-is None r p = absurd r
+
+    order-is : (i : ℕ) (q : Option Part) (ins : List ℕ) → Reference-right board k q → (all (driven-ahead (module-number board k) i) (through-of (λ j. through (behind board k j)) q ins) ≡ true) ↔ ((p w : ℕ) → At ins p w → Through-input board q p → Driven board k i w)
+    order-is i q ins r =
+        let f = λ (j : ℕ). through (behind board k j) in
+        let a = all-is (driven-ahead (module-number board k) i) (Driven board k i) (driven-is board k i) (through-of f q ins) in
+        ( λ e p w at t. a .0 e w (in-through f q ins w p at (through-input-is q r p .1 t))
+        , λ h. a .1 (λ w j. let t = through-in f q ins w j in h (t .0) w (t .1) (through-input-is q r (t .0) .0 (t .2))))
+
+    -- the test of an occurrence whose reference is right, or the test of the reference
+    occurrence-is : (i : ℕ) (r : Occurrence-rule) → (6 < number-of (occurrence-refusal r 0) → Occurrence-keeps board k i reference) → (occurrence-passes-at (module-number board k) (behind board k) i r ≡ true) ↔ Occurrence-keeps board k i r
+    occurrence-is i reference f = reference-is (part (occurrence-number board k i))
+    occurrence-is i pins f = pins-is (part (occurrence-number board k i)) (length (occurrence-number board k i .ins)) (length (occurrence-number board k i .outs)) (f (omega arith))
+    occurrence-is i wires f = and-is _ _ _ _ (wires-is (module-number board k .wires) (occurrence-number board k i .ins)) (wires-is (module-number board k .wires) (occurrence-number board k i .outs))
+    occurrence-is i order f = order-is i (part (occurrence-number board k i)) (occurrence-number board k i .ins) (f (omega arith))
+    occurrence-is i one-driver f = drive-is i (occurrence-number board k i .outs)
+
+  module-is : (r : Module-rule) → (module-test (module-number board k) (behind board k) r ≡ true) ↔ Module-keeps board k r
+  module-is output-wires = wires-is (module-number board k .wires) (module-number board k .outs)
+  module-is all-driven =
+      let os = module-number board k .occurrences in
+      let d : (w : ℕ) → (drive-all os (λ x. ltb x (module-number board k .inputs)) w ≡ true) ↔ Driven board k (length os) w =
+        λ w. subst (λ l. (drive-all l (λ x. ltb x (module-number board k .inputs)) w ≡ true) ↔ Driven board k (length os) w) (take-all (length os) os (omega arith)) (driven-is board k (length os) w) in
+      ( λ e w l. d w .0 (every-each (module-number board k .wires) _ e w l)
+      , λ h. each-every (module-number board k .wires) _ (λ w l. d w .1 (h w l)))
+  module-is state-list =
+      let a = states-is (length (module-number board k .occurrences)) (cells-at (module-number board k) (behind board k)) (module-number board k .states) in
+      (λ e. let h = a .0 e in record { holding = h .0; each-once = h .1 }, λ h. a .1 (h .holding, h .each-once))
+  module-is size =
+      let d = design-number board k in
+      let a = and-is (leb (depth d) 8) (leb (cells d) 4096 && leb (places d) 65535) _ _ (leb-is (depth d) 8) (and-is (leb (cells d) 4096) (leb (places d) 65535) _ _ (leb-is (cells d) 4096) (leb-is (places d) 65535)) in
+      (λ e. let h = a .0 e in record { shallow = h .0; few-cells = h .1 .0; few-places = h .1 .1 }, λ h. a .1 (h .shallow, (h .few-cells, h .few-places)))
