@@ -221,9 +221,6 @@ design-at (m ∷ ms) k zero j e l =
 design-at (m ∷ ms) k (suc n) j e l = cond-false (eqb j k) _ _ (ne-eqb j k (λ z. omega arith)) ∙ design-at ms (suc k) n j (omega arith) (le-of-suc-le-suc l)
 
 module _ (board : List Module) where
-  pub from-top : (j : ℕ) → j < length board → design-from 0 board j ≡ design-number board j
-  from-top j l = design-at board 0 j j (omega arith) l
-
   module _ (k : ℕ) where
     abbrev pub behind : ℕ → Design
     behind = design-from (suc k) (drop (suc k) board)
