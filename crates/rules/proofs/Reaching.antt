@@ -220,31 +220,27 @@ design-at (m ∷ ms) k zero j e l =
     cond-true (eqb j k) _ _ (eq-eqb j k z) ∙ ap (λ i. node m (design-from (suc i) ms)) (sym z)
 design-at (m ∷ ms) k (suc n) j e l = cond-false (eqb j k) _ _ (ne-eqb j k (λ z. omega arith)) ∙ design-at ms (suc k) n j (omega arith) (le-of-suc-le-suc l)
 
-module _ (board : List Module) where
-  pub from-top : (j : ℕ) → j < length board → design-from 0 board j ≡ design-number board j
-  from-top j l = design-at board 0 j j (omega arith) l
+module _ (board : List Module) (k : ℕ) where
+  abbrev pub behind : ℕ → Design
+  behind = design-from (suc k) (drop (suc k) board)
 
-  module _ (k : ℕ) where
-    abbrev pub behind : ℕ → Design
-    behind = design-from (suc k) (drop (suc k) board)
+  pub behind-is : (j : ℕ) → k < j → j < length board → behind j ≡ design-number board j
+  behind-is j a b =
+      let n = j - suc k in
+      let y : suc k + n ≡ j = omega arith in
+      let z : suc k + suc n ≡ suc j = omega arith in
+      design-at (drop (suc k) board) (suc k) n j (omega arith) (simp length-drop (omega arith))
+      ∙ ap₂ (λ m ms. node m (design-from (suc j) ms)) (getD-drop (suc k) board n no-module ∙ ap (λ i. getD board i no-module) y) (drop-drop (suc n) (suc k) board ∙ ap (λ i. drop i board) z)
 
-    pub behind-is : (j : ℕ) → k < j → j < length board → behind j ≡ design-number board j
-    behind-is j a b =
-        let n = j - suc k in
-        let y : suc k + n ≡ j = omega arith in
-        let z : suc k + suc n ≡ suc j = omega arith in
-        design-at (drop (suc k) board) (suc k) n j (omega arith) (simp length-drop (omega arith))
-        ∙ ap₂ (λ m ms. node m (design-from (suc j) ms)) (getD-drop (suc k) board n no-module ∙ ap (λ i. getD board i no-module) y) (drop-drop (suc n) (suc k) board ∙ ap (λ i. drop i board) z)
-
-    pub behind-none : (j : ℕ) → ((k < j) × (j < length board) → ⊥) → behind j ≡ absent
-    behind-none j h =
-        elim (cases-lt k j) [
-          | inl a ↦ elim (cases-lt j (length board)) [
-            | inl b ↦ absurd (h (a, b))
-            | inr b ↦ design-high (suc k) (drop (suc k) board) j (simp length-drop (omega arith))
-          ]
-          | inr a ↦ design-low (suc k) (drop (suc k) board) j (omega arith)
+  pub behind-none : (j : ℕ) → ((k < j) × (j < length board) → ⊥) → behind j ≡ absent
+  behind-none j h =
+      elim (cases-lt k j) [
+        | inl a ↦ elim (cases-lt j (length board)) [
+          | inl b ↦ absurd (h (a, b))
+          | inr b ↦ design-high (suc k) (drop (suc k) board) j (simp length-drop (omega arith))
         ]
+        | inr a ↦ design-low (suc k) (drop (suc k) board) j (omega arith)
+      ]
 
 pub cases-within : (k j n : ℕ) → ((k < j) × (j < n)) ⊎ ((k < j) × (j < n) → ⊥)
 cases-within k j n =

@@ -143,8 +143,8 @@ no-placed = record { place = 0; occurrence = no-occurrence }
 
 -- the first test that fails of a module and its occurrences
 pub data Fails-module (below : ℕ → Design) (u : Placed-module) (e : Refusal) : Type 0 where
-  of-occurrence : (i : ℕ) → i < length (occurrences-of (u .placed)) → ((h : ℕ) → h < i → (r : Occurrence-rule) → occurrence-passes-at (module-of u) below h r ≡ true) → Fails (occurrence-passes-at (module-of u) below i) occurrence-refusal (getD (u .placed) i no-placed .place) e → Fails-module below u e
-  of-module : ((i : ℕ) → i < length (occurrences-of (u .placed)) → (r : Occurrence-rule) → occurrence-passes-at (module-of u) below i r ≡ true) → Fails (module-test (module-of u) below) module-refusal (u .place) e → Fails-module below u e
+  fails-occurrence : (i : ℕ) → i < length (occurrences-of (u .placed)) → ((h : ℕ) → h < i → (r : Occurrence-rule) → occurrence-passes-at (module-of u) below h r ≡ true) → Fails (occurrence-passes-at (module-of u) below i) occurrence-refusal (getD (u .placed) i no-placed .place) e → Fails-module below u e
+  fails-own : ((i : ℕ) → i < length (occurrences-of (u .placed)) → (r : Occurrence-rule) → occurrence-passes-at (module-of u) below i r ≡ true) → Fails (module-test (module-of u) below) module-refusal (u .place) e → Fails-module below u e
 
 module _ (below : ℕ → Design) where
   module _ (limit : ℕ) where
@@ -229,15 +229,15 @@ module _ (below : ℕ → Design) where
     judged-fails-first e h = by inner refl h
       where
         by : (v : Verdict) → inner ≡ v → (v then own-judged) ≡ refused e → Fails-module below u e
-        by accepted a g = of-module (occurrences-pass (u .wires) dr (u .placed) a) (own-fails e g)
-        by (refused r) a g = let f = occurrences-fail (u .wires) dr (u .placed) e (a ∙ g) in of-occurrence (f .number) (f .within) (f .ahead) (f .fails)
+        by accepted a g = fails-own (occurrences-pass (u .wires) dr (u .placed) a) (own-fails e g)
+        by (refused r) a g = let f = occurrences-fail (u .wires) dr (u .placed) e (a ∙ g) in fails-occurrence (f .number) (f .within) (f .ahead) (f .fails)
 
     pub passes-judged : Passes m below → module-judged below u ≡ accepted
     passes-judged k = by (module-judged below u) refl
       where
         never : (e : Refusal) → Fails-module below u e → ⊥
-        never e (of-occurrence i l a f) = both-ways _ (f .fails) (k .occurrences i l (f .rule))
-        never e (of-module a f) = both-ways _ (f .fails) (k .own (f .rule))
+        never e (fails-occurrence i l a f) = both-ways _ (f .fails) (k .occurrences i l (f .rule))
+        never e (fails-own a f) = both-ways _ (f .fails) (k .own (f .rule))
 
         by : (v : Verdict) → module-judged below u ≡ v → module-judged below u ≡ accepted
         by accepted a = a
