@@ -213,7 +213,7 @@ unit-is f k d h =
     let z : k ≡ k + 0 = omega arith in
     ap (λ j. getD (units-of f) j d) z ∙ sym (getD-drop k (units-of f) 0 d) ∙ ap (λ us. getD us 0 d) (units-more f k (omega (arith, length-board f)))
 
-pub module-is : (f : List ℕ) (k : ℕ) → k < length (board-of f) → module-number (board-of f) k ≡ module-of (unit-no f k)
+module-is : (f : List ℕ) (k : ℕ) → k < length (board-of f) → module-number (board-of f) k ≡ module-of (unit-no f k)
 module-is f k h = getD-map module-of (units-of f) k (unit-no f 0) no-module (omega (arith, length-map (units-of f) module-of)) ∙ ap module-of (unit-is f k (unit-no f 0) h)
 
 uses-are : (f : List ℕ) (k : ℕ) → k < length (board-of f) → length (module-number (board-of f) k .occurrences) ≡ uses f (module-place f k)
