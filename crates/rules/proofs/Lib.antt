@@ -1,3 +1,10 @@
 pub mod Verdicts
 pub mod Reading
 pub mod Modules
+pub mod Sounds
+pub mod Reaching
+pub mod Keeping
+pub mod LaidRecords
+pub mod Laid
+pub mod Dues
+pub mod Exactly
