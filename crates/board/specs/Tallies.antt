@@ -10,6 +10,8 @@ use Rattle.rules.specs.Records.{end-of, uses, module-at}
 use Rattle.rules.specs.Judging.{Placed-module, unit-no, module-of, occurrences-of, seen-from}
 use Rattle.board.specs.WireTables.{driven-by, reaches}
 use Rattle.board.specs.Summaries.{file-of}
+use Rattle.board.specs.declared.records.Counts.{Counts}
+use Rattle.board.specs.declared.tables.Summary.{Summary}
 use Rattle.board.specs.declared.tables.Judged.{Judged}
 use Rattle.board.specs.declared.modules.Tally.{Tally}
 use Rattle.board.specs.declared.modules.Lists.{Lists}
@@ -22,6 +24,15 @@ pub record Tally-of (below : ℕ → Design) (u : Placed-module) (s : Tally) : T
   pub depth : 1 + s .depth ≡ depth (node (module-of u) below)
   pub places : s .places ≡ places (node (module-of u) below)
   pub shallow : s .depth ≤ 8
+
+-- the summary of a module with such counts, such a tally and such a set of through inputs
+pub record Summed (c : Counts) (t : Tally) (through : ℕ) (s : Summary) : Type 0 where
+  pub inputs : s .inputs ≡ c .inputs
+  pub outputs : s .outputs ≡ c .outputs
+  pub through-is : s .through ≡ through
+  pub cells : s .cells ≡ t .cells
+  pub depth : s .depth ≡ 1 + t .depth
+  pub places : s .places ≡ t .places
 
 -- where the cells of each occurrence of module k begin among the module's
 abbrev pub Starts-of : List ℕ → ℕ → List ℕ → Type 0

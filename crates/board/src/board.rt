@@ -1,9 +1,10 @@
 // A board: a file whose verdict is acceptance, with its tables. It exists only by judging, and borrows the file.
 ghost use mathlib.Core.Path.{_≡_};
 ghost use Rattle.board.specs.Decoded.{Accepted};
-ghost use Rattle.board.specs.Sizes.{Figures-of};
+ghost use Rattle.board.specs.Sizes.{Figured, Figures-of};
 use crate::figures::Figures;
 use crate::tables::Judged;
+use crate::tables::Summary;
 
 #[derive(Drop)]
 pub struct Board<'f> {
@@ -19,18 +20,23 @@ pub fn seal<'f>(judged: Judged<'f>) -> Board<'f>
     Board { judged }
 }
 
+fn figures_of(modules: usize, top: Summary) -> Figures
+    ensures { λ r. ⌜ Figured modules top r ⌝ }
+{
+    Figures {
+        modules,
+        inputs: top.inputs as usize,
+        outputs: top.outputs as usize,
+        cells: top.cells as usize,
+        places: top.places as usize,
+        depth: top.depth as usize,
+    }
+}
+
 impl Board<'_> {
     pub fn figures(&self) -> Figures
         ensures { λ r. ⌜ Figures-of (now (now (self .entry) .judged .file)) r ⌝ }
     {
-        let top = self.judged.summaries[0];
-        Figures {
-            modules: self.judged.count,
-            inputs: top.inputs as usize,
-            outputs: top.outputs as usize,
-            cells: top.cells as usize,
-            places: top.places as usize,
-            depth: top.depth as usize,
-        }
+        figures_of(self.judged.count, self.judged.summaries[0])
     }
 }

@@ -1,7 +1,7 @@
 // Judging board files: a file becomes a board, or is refused by a number and a place.
-mod judging;
-mod figures;
 mod board;
+mod figures;
+mod judging;
 mod layout;
 mod modules;
 mod occurrences;

@@ -8,8 +8,9 @@ ghost use Rattle.rules.specs.Boards.{node};
 ghost use Rattle.rules.specs.Judging.{occurrences-judged, module-judged, module-of, unit-no, seen-from};
 ghost use Rattle.board.specs.WireTables.{driven-by, reaches};
 ghost use Rattle.board.specs.Summaries.{Judged-from, Described, file-of};
-ghost use Rattle.board.specs.Tallies.{Tally-of, Lists-of, Starts-of};
+ghost use Rattle.board.specs.Tallies.{Tally-of, Lists-of, Starts-of, Summed};
 use crate::occurrences::judge_occurrence;
+use crate::records::Counts;
 use crate::records::RecordKind;
 use crate::records::read_record;
 use crate::tables::Found;
@@ -105,6 +106,21 @@ fn module_lists<'f>(b: &Judged<'f>, own: usize) -> Result<Lists<'f>, Refusal>
     Ok(Lists { outs, states })
 }
 
+// What a module is to the modules ahead of it.
+fn summary_of(counts: Counts, tally: &Tally, through: u16) -> Summary
+    requires { ⌜ now tally .depth ≤ 7 ⌝ ∗ ⌜ now tally .cells ≤ 4096 ⌝ ∗ ⌜ now tally .places ≤ 65535 ⌝ }
+    ensures { λ r. ⌜ Summed counts (now (tally .entry)) through r ⌝ }
+{
+    Summary {
+        inputs: counts.inputs,
+        outputs: counts.outputs,
+        through,
+        cells: tally.cells as u16,
+        depth: tally.depth + 1,
+        places: tally.places as u16,
+    }
+}
+
 // Module `own` by checks 6 to 12, and what it is to the modules ahead of it.
 pub fn judge_module(b: &Judged, own: usize) -> Result<Found, Refusal>
     requires { ⌜ Judged-from (now b) (own + 1) ⌝ ∗ ⌜ own < now b .count ⌝ }
@@ -126,14 +142,8 @@ pub fn judge_module(b: &Judged, own: usize) -> Result<Found, Refusal>
     if tally.depth > 7 || tally.cells > 4096 || tally.places > 65535 {
         return Err(Refusal::Size { place });
     }
-    let summary = Summary {
-        inputs: m.counts.inputs,
-        outputs: m.counts.outputs,
-        through: inputs_reaching(lists.outs, 0xffff, &tally.reach),
-        cells: tally.cells as u16,
-        depth: tally.depth + 1,
-        places: tally.places as u16,
-    };
+    let through = inputs_reaching(lists.outs, 0xffff, &tally.reach);
+    let summary = summary_of(m.counts, &tally, through);
     let starts = cell_starts(lists.states, &tally.sizes, m.counts.occurrences as usize);
     Ok(Found { summary, starts })
 }

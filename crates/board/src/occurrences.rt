@@ -89,7 +89,7 @@ fn connect(
     place: usize,
     driven: &mut [bool; 256],
 ) -> Result<(), Refusal>
-    requires { ⌜ length (now (o .ins)) ≤ 16 ⌝ }
+    requires { ⌜ length (now (o .ins)) ≤ 16 ⌝ ∗ ⌜ length (now (o .outs)) ≤ 16 ⌝ }
     ensures { λ r. ⌜ Judges r (pins-judged (summary .inputs) (summary .outputs) (picked (bit (summary .through)) (now (o .entry .ins))) wires (driven-by (now (driven .entry))) place (now (o .entry .ins)) (now (o .entry .outs))) (λ _. driven-by (now (driven .exit)) ≡ drive (now (o .entry .outs)) (driven-by (now (driven .entry)))) ⌝ }
 {
     if o.ins.len() != summary.inputs as usize || o.outs.len() != summary.outputs as usize {

@@ -111,6 +111,13 @@ fn times_due(size: u16) -> usize
     if size > 0 { 1 } else { 0 }
 }
 
+// Whether occurrence `i`, of so many cells, stands in a state list as often as it is due.
+fn stands_as_due(states: &[u8], i: usize, size: u16) -> bool
+    ensures { λ r. ⌜ r ≡ eqb (times i (now (states .entry))) (times-due size) ⌝ }
+{
+    times_in(states, i) == times_due(size)
+}
+
 pub fn states_right(states: &[u8], sizes: &[u16; 64], count: u8) -> bool
     requires { ⌜ count ≤ 64 ⌝ }
     ensures { λ r. ⌜ r ≡ (all (λ s. ltb s count) (now (states .entry)) && every count (λ i. eqb (times i (now (states .entry))) (times-due (getD (now (sizes .entry)) i 0)))) ⌝ }
@@ -119,7 +126,7 @@ pub fn states_right(states: &[u8], sizes: &[u16; 64], count: u8) -> bool
         return false;
     }
     for i in 0..count as usize {
-        if times_in(states, i) != times_due(sizes[i]) {
+        if !stands_as_due(states, i, sizes[i]) {
             return false;
         }
     }

@@ -9,7 +9,11 @@ fn report(rt: &impl Print, file: &[u8]) -> io::Result<()> {
     match judge(file) {
         Ok(judged) => {
             let f = seal(judged).figures();
-            println!(rt, "modules {} cells {} places {} depth {}", f.modules, f.cells, f.places, f.depth)
+            println!(
+                rt,
+                "modules {} cells {} places {} depth {}",
+                f.modules, f.cells, f.places, f.depth
+            )
         }
         Err(refusal) => {
             let number = refusal.number();

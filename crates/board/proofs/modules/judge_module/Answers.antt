@@ -6,6 +6,7 @@ use lib.ListN.{length, getD, drop, length-take, length-drop}
 use Rattle.rules.specs.Records.{end-of, body, module-at, outputs-in}
 use Rattle.rules.specs.Judging.{unit-at, seen-from}
 use Rattle.board.specs.Layouts.{no-records}
+use Rattle.board.specs.WireTables.{bit}
 use Rattle.board.proofs.Findings.{bad-wire, bad-drive, bad-state, bad-size, good, through-is, small, small-yes, small-1, small-2, small-3, starts-are, listed-below}
 use Rattle.board.proofs.modules.judge_module.Needs as need
 use Rattle.board.proofs.modules.judge_module.Needs.{then-tally-gt7·by·then-tally-gt7, then-tally-gt7·by·else-tally-gt7·then-tally-gt4096, then-tally-gt7·by·else-tally-gt7·else-tally-gt4096·then-tally-gt65535}
@@ -86,6 +87,7 @@ returns c =
     let mo = c .pre .0 .modules (c .args .own) (omega (arith, c .pre .0 .count)) in
     let s = c .in-Continue-tally .tally in
     let hs = c .in-Continue-tally .ensures tt in
+    let q = c .summary-of-summary .ensures in
     let hl = c .in-Continue-lists .ensures tt .1 in
     let l = sym (c .states-right .ensures) ∙ c .if-not-states-right .left in
     let lo : length (unit-at f at .outs) ≡ m .counts .outputs = length-take (outputs-in (body f at)) (drop 5 (body f at)) ∙ omega (arith, length-drop 5 (body f at), mo .counts .whole, mo .counts .outputs) in
@@ -94,15 +96,15 @@ returns c =
       (
         record {
           here = refl;
-          inputs = mo .counts .inputs;
-          outputs = sym lo;
-          through = through-is f below at s (m .counts .wires) (m .counts .occurrences) (m .place) _ _ (mo .place) (mo .counts .wires) (mo .counts .occurrences) (hl .outs) (hl .states) (hs .0) (hs .1) (c .inputs-reaching .result) (hl .few-outs) (c .inputs-reaching .ensures);
-          cells = hs .1 .cells;
-          depth = (let q : s .depth + 1 ≡ 1 + s .depth = omega arith in q) ∙ hs .1 .depth;
-          places = hs .1 .places;
-          few-cells = c .if-tally-gt4096 .left;
-          shallow = omega arith;
-          few-places = c .if-tally-gt65535 .left;
+          inputs = q .inputs ∙ mo .counts .inputs;
+          outputs = q .outputs ∙ sym lo;
+          through = λ x h. ap (λ n. bit n x) (q .through-is) ∙ through-is f below at s (m .counts .wires) (m .counts .occurrences) (m .place) _ _ (mo .place) (mo .counts .wires) (mo .counts .occurrences) (hl .outs) (hl .states) (hs .0) (hs .1) (c .inputs-reaching-through .result) (hl .few-outs) (c .inputs-reaching-through .ensures) x h;
+          cells = q .cells ∙ hs .1 .cells;
+          depth = q .depth ∙ hs .1 .depth;
+          places = q .places ∙ hs .1 .places;
+          few-cells = omega (arith, q .cells, c .if-tally-gt4096 .left);
+          shallow = omega (arith, q .depth, c .if-tally-gt7 .left);
+          few-places = omega (arith, q .places, c .if-tally-gt65535 .left);
         },
         λ i h. c .cell-starts-starts .ensures i (omega (arith, mo .counts .occurrences)) ∙ starts-are f below at s (m .counts .wires) (m .counts .occurrences) (m .place) _ _ (mo .place) (mo .counts .wires) (mo .counts .occurrences) (hl .outs) (hl .states) (hs .0) (hs .1) l i,
       ),

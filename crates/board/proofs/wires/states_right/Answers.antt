@@ -16,11 +16,11 @@ use Rattle.board.specs.WireTables.{driven-by}
 use Rattle.board.proofs.Every.{every-yes, every-no, times-yes, times-no}
 use Rattle.board.proofs.wires.states_right.Needs as need
 
-pub returns-then-times-in-times-due : need.returns-then-times-in-times-due
-returns-then-times-in-times-due c =
+pub returns-then-not-stands-as-due : need.returns-then-not-stands-as-due
+returns-then-not-stands-as-due c =
     let xs = c .args .states .now in
     let f : ℕ → Bool = λ i. eqb (times i xs) (times-due (getD (c .args .sizes .now) i 0)) in
-    let e : f (c .loop-i .i) ≡ false = ne-eqb _ _ (λ q. c .if-times-in-times-due .taken (c .times-in .ensures ∙ q ∙ sym (c .times-due .ensures))) in
+    let e : f (c .loop-i .i) ≡ false = sym (c .stands-as-due .ensures) ∙ c .if-not-stands-as-due .taken in
     let a : true ≡ all (λ w. ltb w (c .args .count)) xs = c .if-not-all-below .ensures tt in
     let n = every-no (c .args .count) f (c .loop-i .i) (omega arith) e in
     sym (ap (λ b. b && every (c .args .count) f) (sym a) ∙ n)

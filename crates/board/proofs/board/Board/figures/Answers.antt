@@ -17,11 +17,12 @@ returns c =
     let f = b .file .now in
     let acc = c .args .self .now .accepted in
     let found : Accepted b → Described (top (board-of f)) _ = λ a. a .judged .summaries 0 (omega arith) (a .judged .some) in
+    let q = c .figures-of .ensures in
     record {
-      modules = ∥∥₁-elim acc (ℕ-set _ _) (λ a. a .judged .count ∙ sym (length-map (units-of f) module-of ∙ length-units f (end-of f 0) (module-count f)));
-      inputs = ∥∥₁-elim acc (ℕ-set _ _) (λ a. found a .inputs);
-      outputs = ∥∥₁-elim acc (ℕ-set _ _) (λ a. found a .outputs);
-      cells = ∥∥₁-elim acc (ℕ-set _ _) (λ a. found a .cells);
-      places = ∥∥₁-elim acc (ℕ-set _ _) (λ a. found a .places);
-      depth = ∥∥₁-elim acc (ℕ-set _ _) (λ a. found a .depth);
+      modules = q .modules-is ∙ ∥∥₁-elim acc (ℕ-set _ _) (λ a. a .judged .count ∙ sym (length-map (units-of f) module-of ∙ length-units f (end-of f 0) (module-count f)));
+      inputs = q .inputs ∙ ∥∥₁-elim acc (ℕ-set _ _) (λ a. found a .inputs);
+      outputs = q .outputs ∙ ∥∥₁-elim acc (ℕ-set _ _) (λ a. found a .outputs);
+      cells = q .cells ∙ ∥∥₁-elim acc (ℕ-set _ _) (λ a. found a .cells);
+      places = q .places ∙ ∥∥₁-elim acc (ℕ-set _ _) (λ a. found a .places);
+      depth = q .depth ∙ ∥∥₁-elim acc (ℕ-set _ _) (λ a. found a .depth);
     }

@@ -4,7 +4,7 @@ use Rattle.rules.specs.Refusals.{accepted}
 use Rattle.rules.specs.Judging.{units-of, modules-judged}
 use Rattle.board.specs.Summaries.{Judged-from, file-of}
 use Rattle.board.specs.Tallies.{Started-from}
-use Rattle.board.proofs.judging.judge.Given as given
+use Rattle.board.proofs.judging.judge_file.Given as given
 
 abbrev pub Inv-loop-k : given.InvT-loop-k
 Inv-loop-k l =
