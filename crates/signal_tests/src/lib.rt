@@ -19,8 +19,6 @@ mod tests {
 
     const BITS: [bool; 2] = [false, true];
 
-    const LEVELS: [Level; 3] = [Level::Zero, Level::One, Level::Unknown];
-
     // Each gate with its outputs: bit 4a + 2b + c is the output for the inputs a, b and c.
     const GATES: [(Gate, u8); 11] = [
         (Gate::Low, 0b0000_0000),
@@ -47,16 +45,23 @@ mod tests {
     fn bits() -> Result<(), Fail> {
         for entry in &GATES {
             let (gate, outputs) = *entry;
-            for a in &BITS {
-                for b in &BITS {
-                    for c in &BITS {
-                        check_eq(evaluate(gate, *a, *b, *c), output(outputs, *a, *b, *c))?;
-                    }
-                }
+            for n in 0..8u8 {
+                let a = n & 4 != 0;
+                let b = n & 2 != 0;
+                let c = n & 1 != 0;
+                check_eq(evaluate(gate, a, b, c), output(outputs, a, b, c))?;
             }
         }
         check_eq(true.told(), Some(true))?;
         check_eq(false.told(), Some(false))
+    }
+
+    fn level(n: u8) -> Level {
+        match n % 3 {
+            0 => Level::Zero,
+            1 => Level::One,
+            _ => Level::Unknown,
+        }
     }
 
     fn can_be(level: Level, bit: bool) -> bool {
@@ -102,15 +107,14 @@ mod tests {
     fn levels() -> Result<(), Fail> {
         for entry in &GATES {
             let (gate, outputs) = *entry;
-            for v in &LEVELS {
-                for w in &LEVELS {
-                    for x in &LEVELS {
-                        check_eq(
-                            evaluate(gate, *v, *w, *x),
-                            expected_level(gate, outputs, *v, *w, *x),
-                        )?;
-                    }
-                }
+            for n in 0..27u8 {
+                let v = level(n / 9);
+                let w = level(n / 3);
+                let x = level(n);
+                check_eq(
+                    evaluate(gate, v, w, x),
+                    expected_level(gate, outputs, v, w, x),
+                )?;
             }
         }
         check_eq(Level::Zero.told(), Some(false))?;
@@ -200,19 +204,17 @@ mod tests {
     fn marks_over_marks_over_levels() -> Result<(), Fail> {
         for entry in &GATES {
             let (gate, outputs) = *entry;
-            for v in &LEVELS {
-                for w in &LEVELS {
-                    for x in &LEVELS {
-                        let a = marked(marked(*v, 1), 8);
-                        let b = marked(marked(*w, 2), 16);
-                        let c = marked(marked(*x, 4), 32);
-                        let result = evaluate(gate, a, b, c);
-                        let level = expected_level(gate, outputs, *v, *w, *x);
-                        check_eq(result.below.below, level)?;
-                        check_eq(result.below.marks, expected_marks(gate, 1, 2, 4))?;
-                        check_eq(result.marks, expected_marks(gate, 8, 16, 32))?;
-                    }
-                }
+            for n in 0..27u8 {
+                let v = level(n / 9);
+                let w = level(n / 3);
+                let x = level(n);
+                let a = marked(marked(v, 1), 8);
+                let b = marked(marked(w, 2), 16);
+                let c = marked(marked(x, 4), 32);
+                let result = evaluate(gate, a, b, c);
+                check_eq(result.below.below, expected_level(gate, outputs, v, w, x))?;
+                check_eq(result.below.marks, expected_marks(gate, 1, 2, 4))?;
+                check_eq(result.marks, expected_marks(gate, 8, 16, 32))?;
             }
         }
         check_eq(marked(marked(Level::One, 0), 0).told(), Some(true))?;
