@@ -1,22 +1,20 @@
 -- Loops over pins.
-use borrow.Author.Needs.{needs}
-use mathlib.Core.Path.{_≡_, refl, sym, ap, subst, _∙_, fun-ext}
+use mathlib.Core.Path.{_≡_, refl, sym, ap, _∙_, fun-ext}
 use mathlib.Core.Bool.{Bool, true, false, cond, not, _&&_, _||_}
-use mathlib.Core.Logic.{_≢_, _⊎_, inl, inr}
+use mathlib.Core.Logic.{_⊎_, inl, inr}
 use mathlib.Core.List.{List, [], _∷_}
-use Prim.Native.Nat.{ℕ, zero, suc, _+_, _-_, _*_, _/_, _%_, _^_, _<_, _≤_, max}
+use Prim.Native.Nat.{ℕ, suc, _+_, _-_, _/_, _%_, _^_, _<_}
 use native.Mathlib.Nat.{add-zero, zero-div}
-use native.Mathlib.Numerals.{add-one}
 use native.Mathlib.Omega.{arith}
-use lib.Dec.{eqb, ltb}
-use lib.Bits.{bitAnd, bitOr, and-mask, or-shr, or-mod, or-step}
-use lib.ListN.{length, getD, set, drop, length-set}
+use lib.Dec.{eqb}
+use lib.Bits.{bitAnd, bitOr, and-mask, or-shr, or-mod}
+use lib.ListN.{length, getD, set, drop}
 use lib.Seq.{getD-set-same, getD-set-other}
-use Rattle.std.proofs.shelf.Lists.{at-drop-more, at-drop-all}
+use Rattle.std.proofs.shelf.Lists.{at-drop-more}
 use Rattle.std.proofs.shelf.Tests.{eq-eqb, ne-eqb, cases-eq}
-use Rattle.rules.specs.Wires.{Wires, upd}
+use Rattle.rules.specs.Wires.{upd}
 use Rattle.rules.specs.Wires.{all, fresh}
-use Rattle.rules.specs.Wires.{any, picked, drive, mark}
+use Rattle.rules.specs.Wires.{picked, drive, mark}
 use Rattle.board.specs.WireTables.{bit, driven-by, reaches, picked-from, fill}
 
 pub has-bit : (n k : ℕ) → eqb (bitAnd (n / 2 ^ k) 1) 1 ≡ bit n k

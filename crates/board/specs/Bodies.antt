@@ -3,7 +3,7 @@ use mathlib.Core.Path.{_≡_}
 use mathlib.Core.List.{List}
 use Prim.Native.Nat.{ℕ, _+_, _≤_}
 use lib.ListN.{length}
-use Rattle.rules.specs.Records.{number-at, end-of, body, inputs-in, outputs-in, wires-in, occurrences-in, states-in}
+use Rattle.rules.specs.Records.{end-of, body, inputs-in, outputs-in, wires-in, occurrences-in, states-in}
 use Rattle.rules.specs.Judging.{occurrence-in}
 use Rattle.board.specs.declared.records.RecordKind.{RecordKind}
 use Rattle.board.specs.declared.records.RecordKind.the-variants.{Board, Module, Occurrence as Occurrence-kind}

@@ -1,17 +1,15 @@
 -- The table of references in words.
-use mathlib.Core.Path.{_≡_, refl, sym, ap, subst, _∙_}
+use mathlib.Core.Path.{_≡_, refl, ap, _∙_}
 use mathlib.Core.Bool.{Bool, true, false, cond}
-use mathlib.Core.Logic.{_⊎_, inl, inr, _↔_, _≢_}
+use mathlib.Core.Logic.{inl, inr, _≢_}
 use mathlib.Core.List.{List, [], _∷_}
 use Prim.Native.Nat.{ℕ, _+_, _-_, _≤_, _<_}
 use native.Mathlib.Omega.{arith}
 use lib.Dec.{eqb, ltb}
-use Rattle.std.proofs.shelf.Tests.{eq-eqb, ne-eqb, lt-ltb, le-ltb, cases-eq, cases-lt, true≢false, false≢true, cond-true, cond-false}
-use Rattle.std.specs.declared.option.Option.{Option}
+use Rattle.std.proofs.shelf.Tests.{ne-eqb, lt-ltb, le-ltb, cases-eq, cases-lt, true≢false, false≢true, cond-true, cond-false}
 use Rattle.std.specs.declared.option.Option.the-variants.{Some, None}
 use Rattle.gates.specs.declared.Gate.{Gate}
 use Rattle.gates.specs.declared.Gate.the-variants.{Low, High, Buf, Not, And, Or, Xor, Nand, Nor, Xnor, Pick}
-use Rattle.gates.specs.declared.Part.{Part}
 use Rattle.gates.specs.declared.Part.the-variants.{Cell, Module}
 use Rattle.gates.specs.declared.Part.the-variants as part
 use Rattle.gates.specs.Gates.{row, gates, gate-among, part-of, gate-bit}

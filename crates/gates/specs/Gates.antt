@@ -1,6 +1,6 @@
 -- The table of references: which number stands for which gate, how many inputs the gate has, and its output bit
 -- for each setting of its inputs. Everything that speaks of gates reads it here.
-use mathlib.Core.Bool.{Bool, true, false, cond}
+use mathlib.Core.Bool.{Bool, cond}
 use mathlib.Core.List.{List, [], _∷_}
 use Prim.Native.Nat.{ℕ, _+_, _-_, _*_}
 use lib.Dec.{eqb, ltb}

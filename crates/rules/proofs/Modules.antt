@@ -1,19 +1,17 @@
 -- The modules of a board, from the last to the first.
-use mathlib.Core.Path.{_≡_, refl, sym, ap, subst, _∙_, fun-ext}
-use mathlib.Core.Bool.{Bool, true, false, cond}
-use mathlib.Core.Logic.{_≢_, _⊎_, inl, inr}
+use mathlib.Core.Path.{_≡_, refl, ap, subst, _∙_}
+use mathlib.Core.Bool.{cond}
 use mathlib.Core.List.{List, [], _∷_, map}
 use Prim.Native.Nat.{ℕ, zero, suc, _+_, _-_, _<_, _≤_}
 use native.Mathlib.Nat.{le-of-suc-le-suc, add-zero}
-use native.Mathlib.Numerals.{add-one}
 use native.Mathlib.Omega.{arith}
 use lib.Dec.{eqb}
 use lib.ListN.{length, getD, drop, length-drop, length-map}
 use Rattle.std.proofs.shelf.Lists.{drop-more, drop-all}
-use Rattle.std.proofs.shelf.Tests.{eq-eqb, ne-eqb, cases-eq}
+use Rattle.std.proofs.shelf.Tests.{ne-eqb}
 use Rattle.rules.specs.declared.refusal.Refusal.{Refusal}
-use Rattle.rules.specs.Refusals.{Verdict, accepted, refused, _then_}
-use Rattle.rules.specs.Boards.{Module, Design, absent, node, design-from}
+use Rattle.rules.specs.Refusals.{accepted, refused, _then_}
+use Rattle.rules.specs.Boards.{Module, absent, node, design-from}
 use Rattle.rules.specs.Records.{end-of, module-end, module-count, module-at}
 use Rattle.rules.specs.Judging.{Placed-module, unit-at, units-at, units-of, module-of, module-judged, modules-judged, unit-no, seen-from}
 use Rattle.rules.proofs.Verdicts.{passed, failed, accepted-refused}
@@ -50,7 +48,7 @@ units-more f k h =
     drop-more (units-of f) k (unit-no f 0) (omega (arith, length-units f (end-of f 0) (module-count f)))
     ∙ ap (λ u. u ∷ drop (k + 1) (units-of f)) (unit-getD f (end-of f 0) (module-count f) k (unit-no f 0) h)
 
--- module k with those module-end it, as the modules ahead of it see them
+-- module k with those behind it, as the modules ahead of it see them
 pub seen-more : (f : List ℕ) (k j : ℕ) → k < module-count f → seen-from f k j ≡ cond (eqb j k) (node (module-of (unit-no f k)) (seen-from f (k + 1))) (seen-from f (k + 1) j)
 seen-more f k j h =
     let z : suc k ≡ k + 1 = omega arith in

@@ -1,15 +1,15 @@
 -- Records one after another.
-use mathlib.Core.Path.{_≡_, refl, sym, ap, subst, _∙_}
-use mathlib.Core.Bool.{Bool, true, false, cond}
+use mathlib.Core.Path.{_≡_, refl, sym, ap, _∙_}
+use mathlib.Core.Bool.{Bool}
 use mathlib.Core.List.{List}
-use Prim.Native.Nat.{ℕ, zero, suc, _+_, _-_, _<_, _≤_}
+use Prim.Native.Nat.{ℕ, zero, suc, _+_, _-_, _≤_}
 use native.Mathlib.Numerals.{add-one}
 use native.Mathlib.Omega.{arith}
 use lib.Dec.{eqb}
-use lib.ListN.{length, getD}
+use lib.ListN.{length}
 use Rattle.rules.specs.declared.refusal.Refusal.{Refusal}
 use Rattle.rules.specs.declared.refusal.Refusal.the-variants.{Shape, Trail}
-use Rattle.rules.specs.Refusals.{Verdict, accepted, refused, _then_, asked}
+use Rattle.rules.specs.Refusals.{accepted, refused, _then_, asked}
 use Rattle.rules.proofs.Verdicts.{passed, failed}
 use Rattle.rules.specs.Records.{end-of, body, framed, after, read, occurrence-shape, occurrences-read, module-end, module-read, module-at, modules-read}
 

@@ -2,8 +2,8 @@
 use mathlib.Core.Path.{_≡_}
 use mathlib.Core.List.{List, [], _∷_, _++_}
 use Prim.Native.Nat.{ℕ, _+_, _*_, _≤_, _<_}
-use lib.ListN.{length, getD, take, drop}
-use Rattle.rules.specs.Boards.{Occurrence, Module, no-module, module-number, occurrence-no, sum-of}
+use lib.ListN.{length, take, drop}
+use Rattle.rules.specs.Boards.{Occurrence, Module, module-number, occurrence-no, sum-of}
 
 -- the number that two bytes are, the low one first
 abbrev pub word : ℕ → ℕ → ℕ

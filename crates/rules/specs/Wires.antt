@@ -1,15 +1,14 @@
 -- Values on a module's wires, which wires are driven, and which inputs reach which wires, computed in one pass over the
 -- occurrences.
-use mathlib.Core.Path.{_≡_}
 use mathlib.Core.Bool.{Bool, true, false, cond, not, _&&_, _||_}
 use mathlib.Core.List.{List, [], _∷_, map}
-use Prim.Native.Nat.{ℕ, zero, suc, _+_, _<_}
+use Prim.Native.Nat.{ℕ, zero, suc, _+_}
 use lib.Dec.{eqb, ltb}
 use Rattle.std.specs.declared.option.Option.{Option}
 use Rattle.std.specs.declared.option.Option.the-variants.{Some, None}
 use Rattle.gates.specs.declared.Part.{Part}
 use Rattle.gates.specs.declared.Part.the-variants.{Gate as gate, Cell as cell, Module as module-no}
-use Rattle.rules.specs.Boards.{Occurrence, Module, Design, absent, node, part, out-wires, outputs-due}
+use Rattle.rules.specs.Boards.{Occurrence, Design, absent, node, part, out-wires, outputs-due}
 
 abbrev pub Wires : Type 0 → Type 0
 Wires V = ℕ → V

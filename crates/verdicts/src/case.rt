@@ -12,7 +12,7 @@ pub struct Case {
     pub file: Vec<u8>,
 }
 
-pub fn read_bases<'a>(heap: Global, bytes: &'a [u8]) -> Result<Vec<&'a [u8]>, Fault> {
+pub(crate) fn read_bases<'a>(heap: Global, bytes: &'a [u8]) -> Result<Vec<&'a [u8]>, Fault> {
     let mut reader = Reader::new(bytes);
     let mut bases = Vec::new(heap);
     for _ in 0..reader.number()? {
@@ -24,7 +24,11 @@ pub fn read_bases<'a>(heap: Global, bytes: &'a [u8]) -> Result<Vec<&'a [u8]>, Fa
     Ok(bases)
 }
 
-pub fn read_case(heap: Global, bases: &[&[u8]], cases: &mut Reader<'_>) -> Result<Case, Fault> {
+pub(crate) fn read_case(
+    heap: Global,
+    bases: &[&[u8]],
+    cases: &mut Reader<'_>,
+) -> Result<Case, Fault> {
     let number = cases.number()?;
     let expected = read_verdict(cases)?;
     let Some(base) = bases.get(number) else {

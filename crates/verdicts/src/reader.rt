@@ -36,11 +36,11 @@ pub struct Reader<'a> {
 }
 
 impl<'a> Reader<'a> {
-    pub fn new(bytes: &'a [u8]) -> Reader<'a> {
+    pub(crate) fn new(bytes: &'a [u8]) -> Reader<'a> {
         Reader { rest: bytes }
     }
 
-    pub fn byte(&mut self) -> Result<u8, Fault> {
+    pub(crate) fn byte(&mut self) -> Result<u8, Fault> {
         let Some((first, rest)) = self.rest.split_first() else {
             return Err(Fault::EndsEarly);
         };
@@ -49,13 +49,13 @@ impl<'a> Reader<'a> {
     }
 
     // Two bytes, the low one first.
-    pub fn number(&mut self) -> Result<usize, Fault> {
+    pub(crate) fn number(&mut self) -> Result<usize, Fault> {
         let low = self.byte()?;
         let high = self.byte()?;
         Ok(usize::from(low) + 256 * usize::from(high))
     }
 
-    pub fn take(&mut self, count: usize) -> Result<&'a [u8], Fault> {
+    pub(crate) fn take(&mut self, count: usize) -> Result<&'a [u8], Fault> {
         let Some((taken, rest)) = self.rest.split_at_checked(count) else {
             return Err(Fault::EndsEarly);
         };
@@ -64,12 +64,12 @@ impl<'a> Reader<'a> {
     }
 
     // A length, and as many bytes.
-    pub fn block(&mut self) -> Result<&'a [u8], Fault> {
+    pub(crate) fn block(&mut self) -> Result<&'a [u8], Fault> {
         let count = self.number()?;
         self.take(count)
     }
 
-    pub fn rest(&self) -> &'a [u8] {
+    pub(crate) fn rest(&self) -> &'a [u8] {
         self.rest
     }
 }

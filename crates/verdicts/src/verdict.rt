@@ -17,7 +17,7 @@ pub enum Verdict {
 
 impl Verdict {
     // 0 for an accepted file.
-    pub fn number(&self) -> u8 {
+    pub(crate) fn number(&self) -> u8 {
         match self {
             Verdict::Accepted(_) => 0,
             Verdict::Refused { number, .. } => *number,
@@ -25,7 +25,7 @@ impl Verdict {
     }
 
     // What the board library says of a file.
-    pub fn of(file: &[u8]) -> Verdict {
+    pub(crate) fn of(file: &[u8]) -> Verdict {
         match board::judge(file) {
             Ok(judged) => {
                 let found = board::seal(judged).figures();

@@ -1,16 +1,15 @@
-use borrow.Author.Needs.{needs}
 use mathlib.Core.Path.{_≡_, refl, sym, ap, subst, _∙_}
-use mathlib.Core.List.{List, []}
+use mathlib.Core.List.{[]}
 use Prim.Native.Nat.{ℕ, _+_, _-_, _<_, _≤_}
 use native.Mathlib.Omega.{arith}
-use lib.ListN.{length, getD, drop, set, length-set}
+use lib.ListN.{getD, drop, length-set}
 use Rattle.std.proofs.shelf.Results.{err-from-errBy}
 use Rattle.rules.specs.Refusals.{accepted, refused}
 use Rattle.rules.specs.Records.{records-read, module-count}
 use Rattle.rules.specs.Judging.{units-of, module-judged, modules-judged, verdict, unit-no, seen-from}
 use Rattle.board.specs.Summaries.{Judged-from, Described, file-of, no-summary}
 use Rattle.board.specs.Tallies.{Starts-of, Started-from}
-use Rattle.rules.proofs.Verdicts.{passed, failed}
+use Rattle.rules.proofs.Verdicts.{passed}
 use Rattle.rules.proofs.Modules.{judged-step, judged-out, judged-end}
 use Rattle.board.proofs.Judgings.{summaries-more, starts-more}
 use Rattle.board.proofs.judging.judge_file.Needs as need

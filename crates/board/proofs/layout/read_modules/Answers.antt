@@ -1,16 +1,13 @@
-use borrow.Author.Needs.{needs}
 use borrow.Author.Count.{below-more}
 use mathlib.Core.Path.{_≡_, refl, sym, ap, _∙_}
 use mathlib.Core.Logic.{_≢_}
-use Prim.Native.Nat.{_+_, _-_, _<_, _≤_}
+use Prim.Native.Nat.{_+_, _-_, _<_}
 use native.Mathlib.Omega.{arith}
-use lib.ListN.{length, getD, length-set}
+use lib.ListN.{length, length-set}
 use lib.Seq.{getD-set-same, getD-set-other}
 use Rattle.std.proofs.shelf.Results.{err-from-errBy}
-use Rattle.rules.specs.Refusals.{accepted, refused, _then_, asked}
-use Rattle.rules.specs.Records.{end-of, module-end, module-at, module-read, modules-read}
-use Rattle.board.specs.Layouts.{Module-of, no-records}
-use Rattle.rules.specs.declared.refusal.Refusal.the-variants.{Trail}
+use Rattle.rules.specs.Refusals.{_then_}
+use Rattle.rules.specs.Records.{module-end, module-at, modules-read}
 use Rattle.rules.proofs.Reading.{module-at-more, modules-on, modules-off, all-read}
 use Rattle.rules.proofs.Verdicts.{asked-yes, asked-no}
 use Rattle.std.proofs.shelf.Tests.{eq-eqb, ne-eqb}

@@ -1,14 +1,13 @@
-use borrow.Author.Needs.{needs}
 use borrow.Author.Count.{below-more}
 use mathlib.Core.Path.{_≡_, refl, sym, ap, subst, _∙_}
 use mathlib.Core.Logic.{_≢_}
-use Prim.Native.Nat.{_+_, _-_, _<_, _≤_}
+use Prim.Native.Nat.{_+_, _-_, _<_}
 use native.Mathlib.Omega.{arith}
-use lib.ListN.{length, getD, length-set}
+use lib.ListN.{length, length-set}
 use lib.Seq.{getD-set-same, getD-set-other}
 use Rattle.std.proofs.shelf.Results.{err-from-errBy}
-use Rattle.rules.specs.Refusals.{accepted, refused, _then_, asked}
-use Rattle.rules.specs.Records.{end-of, body, framed, after, read, occurrence-shape, occurrences-read}
+use Rattle.rules.specs.Refusals.{accepted, refused, asked}
+use Rattle.rules.specs.Records.{end-of, body, after, read, occurrence-shape, occurrences-read}
 use Rattle.rules.specs.declared.refusal.Refusal.the-variants.{Shape}
 use Rattle.rules.proofs.Reading.{after-more, occurrences-on, occurrences-off, read-on, read-off, read-cut, none-left}
 use Rattle.board.proofs.layout.read_occurrences.Needs as need

@@ -1,18 +1,13 @@
-use borrow.Author.Needs.{needs}
-use borrow.Author.Count.{below-more}
-use mathlib.Core.Path.{_≡_, refl, sym, ap, subst, _∙_, fun-ext}
-use mathlib.Core.Bool.{Bool, true, false, cond, _&&_}
-use mathlib.Core.Logic.{_≢_}
-use mathlib.Core.List.{List, [], _∷_}
-use Prim.Native.Nat.{ℕ, _+_, _-_, _*_, _%_, _^_, _<_, _≤_, max}
+use mathlib.Core.Path.{_≡_, refl, sym, ap, subst, _∙_}
+use mathlib.Core.Bool.{_&&_}
+use Prim.Native.Nat.{_+_, _-_, _<_, _≤_}
 use native.Mathlib.Omega.{arith}
 use lib.Dec.{ltb, eqb}
-use lib.ListN.{length, getD, set, length-set}
-use lib.Seq.{getD-set-same, getD-set-other}
+use lib.ListN.{getD, set}
 use Rattle.std.proofs.shelf.Results.{err-from-errBy}
 use Rattle.rules.specs.Boards.{part}
 use Rattle.rules.specs.Refusals.{accepted}
-use Rattle.rules.specs.Records.{end-of, uses, after, module-at, read, occurrence-shape}
+use Rattle.rules.specs.Records.{end-of, uses, after, module-at}
 use Rattle.board.specs.WireTables.{driven-by, reaches}
 use Rattle.rules.specs.Judging.{unit-at, occurrence-judged, occurrence-at}
 use Rattle.rules.specs.Judging.{seen-from}

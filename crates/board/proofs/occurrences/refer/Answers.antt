@@ -1,14 +1,14 @@
-use mathlib.Core.Path.{_≡_, refl, sym, ap, subst, _∙_}
+use mathlib.Core.Path.{refl, sym, ap, subst, _∙_}
 use Prim.Native.Nat.{ℕ, _+_}
 use Rattle.std.specs.declared.option.Option.{Option}
-use Rattle.std.specs.declared.option.Option.the-variants.{Some, None}
+use Rattle.std.specs.declared.option.Option.the-variants.{Some}
 use Rattle.gates.specs.declared.Part.{Part}
 use Rattle.gates.specs.declared.Part.the-variants.{Module as module-no}
 use Rattle.std.specs.declared.result.Result.{Result}
 use Rattle.std.specs.declared.result.Result.the-variants.{Ok, Err}
 use Rattle.rules.specs.declared.refusal.Refusal.{Refusal}
 use Rattle.rules.specs.declared.refusal.Refusal.the-variants.{Refer}
-use Rattle.rules.specs.Refusals.{Judges, accepted, refused, asked}
+use Rattle.rules.specs.Refusals.{Judges, asked}
 use Rattle.rules.specs.Boards.{Design, present}
 use Rattle.rules.specs.Judging.{known, seen-from}
 use Rattle.board.specs.Summaries.{Summary-of, Described, file-of}

@@ -1,17 +1,12 @@
-use borrow.Author.Needs.{needs}
-use mathlib.Core.Path.{_≡_, refl, sym, ap, _∙_}
-use mathlib.Core.Bool.{Bool, true, false, cond, not, _&&_, _||_}
-use mathlib.Core.List.{List, [], _∷_}
-use Prim.Native.Nat.{ℕ, _+_, _-_, _<_, _≤_}
+use mathlib.Core.Path.{sym, ap, _∙_}
+use mathlib.Core.Bool.{_&&_}
+use Prim.Native.Nat.{_+_, _-_}
 use native.Mathlib.Omega.{arith}
-use lib.Dec.{ltb}
-use lib.ListN.{length, getD, set, drop, length-set}
-use Rattle.std.proofs.shelf.Lists.{at-drop-more, at-drop-all}
-use Rattle.std.proofs.shelf.Tests.{lt-ltb, le-ltb}
-use Rattle.rules.specs.Wires.{all, fresh}
-use Rattle.rules.specs.Wires.{any, picked, drive}
-use Rattle.board.specs.WireTables.{bit, driven-by, reaches, picked-from, fill}
-use Rattle.board.proofs.Pins.{has-bit, or-bit, picked-0, all-yes, all-no, picked-yes, picked-no, fresh-no, fresh-yes, drive-more, fill-more}
+use lib.ListN.{drop}
+use Rattle.std.proofs.shelf.Lists.{at-drop-all}
+use Rattle.rules.specs.Wires.{all}
+use Rattle.board.specs.WireTables.{bit, driven-by, picked-from}
+use Rattle.board.proofs.Pins.{picked-0, picked-yes, picked-no}
 use Rattle.board.proofs.wires.all_driven.Needs as need
 use Rattle.board.proofs.wires.all_driven.Needs.{else-has-input·by·then-has-input·else-not-driven-w, else-has-input·by·else-has-input}
 

@@ -1,16 +1,9 @@
-use borrow.Author.Needs.{needs}
 use borrow.Author.Count.{below-more}
-use mathlib.Core.Path.{_≡_, refl, sym, ap, subst, _∙_}
 use mathlib.Core.Logic.{_≢_}
-use Prim.Native.Nat.{ℕ, _+_, _-_, _<_, _≤_}
-use native.Mathlib.Nat.{add-zero}
+use Prim.Native.Nat.{_-_, _<_}
 use native.Mathlib.Omega.{arith}
-use lib.ListN.{length, getD, drop, length-set}
+use lib.ListN.{length, length-set}
 use lib.Seq.{getD-set-same, getD-set-other}
-use Rattle.std.proofs.shelf.Lists.{at-drop-all}
-use Rattle.rules.specs.Boards.{ahead}
-use Rattle.board.specs.WireTables.{size-in}
-use Rattle.board.proofs.Every.{ahead-here, ahead-more}
 use Rattle.board.proofs.wires.cell_starts.Needs as need
 
 pub loop-i-again : need.loop-i-again

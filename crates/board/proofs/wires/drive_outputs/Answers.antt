@@ -1,17 +1,13 @@
 use borrow.Author.Needs.{needs}
-use mathlib.Core.Path.{_≡_, refl, sym, ap, _∙_}
-use mathlib.Core.Bool.{Bool, true, false, cond, not, _&&_, _||_}
-use mathlib.Core.List.{List, [], _∷_}
-use Prim.Native.Nat.{ℕ, _+_, _-_, _<_, _≤_}
+use mathlib.Core.Path.{sym, _∙_}
+use Prim.Native.Nat.{_-_, _<_}
 use native.Mathlib.Omega.{arith}
-use lib.Dec.{ltb}
-use lib.ListN.{length, getD, set, drop, length-set}
-use Rattle.std.proofs.shelf.Lists.{at-drop-more, at-drop-all}
-use Rattle.std.proofs.shelf.Tests.{lt-ltb, le-ltb}
-use Rattle.rules.specs.Wires.{all, fresh}
-use Rattle.rules.specs.Wires.{any, picked, drive}
-use Rattle.board.specs.WireTables.{bit, driven-by, reaches, picked-from, fill}
-use Rattle.board.proofs.Pins.{has-bit, or-bit, picked-0, all-yes, all-no, picked-yes, picked-no, fresh-no, fresh-yes, drive-more, fill-more}
+use lib.ListN.{length, getD, length-set}
+use Rattle.std.proofs.shelf.Lists.{at-drop-all}
+use Rattle.rules.specs.Wires.{fresh}
+use Rattle.rules.specs.Wires.{drive}
+use Rattle.board.specs.WireTables.{driven-by}
+use Rattle.board.proofs.Pins.{fresh-no, fresh-yes, drive-more}
 use Rattle.board.proofs.wires.drive_outputs.Needs as need
 use borrow.Author.Tests.{clash}
 

@@ -1,20 +1,15 @@
-use borrow.Author.Needs.{needs}
-use mathlib.Core.Path.{_≡_, refl, sym, ap, _∙_}
-use mathlib.Core.Bool.{Bool, true, false, cond, not, _&&_, _||_}
-use mathlib.Core.List.{List, [], _∷_}
-use Prim.Native.Nat.{ℕ, _+_, _-_, _<_, _≤_}
+use mathlib.Core.Path.{_≡_, sym, ap, _∙_}
+use mathlib.Core.Bool.{Bool, _||_}
+use mathlib.Core.List.{List}
+use Prim.Native.Nat.{ℕ, _+_, _-_}
 use native.Mathlib.Omega.{arith}
-use lib.Dec.{ltb}
-use lib.ListN.{length, getD, set, drop, length-set}
-use Rattle.std.proofs.shelf.Lists.{at-drop-more, at-drop-all}
-use Rattle.std.proofs.shelf.Tests.{lt-ltb, le-ltb}
-use Rattle.rules.specs.Wires.{all, fresh}
-use Rattle.rules.specs.Wires.{any, picked, drive}
-use Rattle.board.specs.WireTables.{bit, driven-by, reaches, picked-from, fill}
-use Rattle.board.proofs.Pins.{has-bit, or-bit, bit-zero, or-again, or-none, picked-0, all-yes, all-no, picked-yes, picked-no, fresh-no, fresh-yes, drive-more, fill-more}
+use lib.ListN.{getD, drop}
+use Rattle.std.proofs.shelf.Lists.{at-drop-all}
+use Rattle.rules.specs.Wires.{any}
+use Rattle.board.specs.WireTables.{bit, reaches, picked-from}
+use Rattle.board.proofs.Pins.{or-bit, bit-zero, or-again, or-none, picked-0, picked-yes, picked-no}
 use Rattle.board.proofs.wires.inputs_reaching.Needs as need
 use Rattle.board.proofs.wires.inputs_reaching.Needs.{then-has-input, else-has-input}
-use lib.Bits.{bitOr}
 
 pub loop-k-holds : need.loop-k-holds
 loop-k-holds c x =

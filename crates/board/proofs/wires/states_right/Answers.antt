@@ -1,19 +1,13 @@
-use borrow.Author.Needs.{needs}
-use mathlib.Core.Path.{_≡_, refl, sym, ap, subst, _∙_}
-use mathlib.Core.Bool.{Bool, true, false, cond, _&&_}
-use mathlib.Core.List.{List, [], _∷_}
-use Prim.Native.Nat.{ℕ, _+_, _-_, _<_, _≤_}
-use native.Mathlib.Nat.{add-zero}
+use mathlib.Core.Path.{_≡_, sym, ap, _∙_}
+use mathlib.Core.Bool.{Bool, true, false, _&&_}
+use Prim.Native.Nat.{ℕ, _-_}
 use native.Mathlib.Omega.{arith}
 use lib.Dec.{ltb, eqb}
-use lib.ListN.{length, getD, drop}
-use Rattle.std.proofs.shelf.Lists.{at-drop-more, at-drop-all}
-use Rattle.std.proofs.shelf.Tests.{eq-eqb, ne-eqb}
+use lib.ListN.{getD}
 use Rattle.rules.specs.Wires.{all, every}
 use Rattle.rules.specs.Wires.{times}
 use Rattle.rules.specs.Judging.{times-due}
-use Rattle.board.specs.WireTables.{driven-by}
-use Rattle.board.proofs.Every.{every-yes, every-no, times-yes, times-no}
+use Rattle.board.proofs.Every.{every-yes, every-no}
 use Rattle.board.proofs.wires.states_right.Needs as need
 
 pub returns-then-not-stands-as-due : need.returns-then-not-stands-as-due

@@ -1,19 +1,10 @@
-use borrow.Author.Needs.{needs}
-use mathlib.Core.Path.{_≡_, refl, sym, ap, subst, _∙_}
-use mathlib.Core.Bool.{Bool, true, false, cond, _&&_}
-use mathlib.Core.List.{List, [], _∷_}
-use Prim.Native.Nat.{ℕ, _+_, _-_, _<_, _≤_}
+use mathlib.Core.Path.{sym, ap, _∙_}
+use Prim.Native.Nat.{_+_, _-_}
 use native.Mathlib.Nat.{add-zero}
 use native.Mathlib.Omega.{arith}
-use lib.Dec.{ltb, eqb}
-use lib.ListN.{length, getD, drop}
-use Rattle.std.proofs.shelf.Lists.{at-drop-more, at-drop-all}
-use Rattle.std.proofs.shelf.Tests.{eq-eqb, ne-eqb}
-use Rattle.rules.specs.Wires.{all, every}
+use Rattle.std.proofs.shelf.Lists.{at-drop-all}
 use Rattle.rules.specs.Wires.{times}
-use Rattle.rules.specs.Judging.{times-due}
-use Rattle.board.specs.WireTables.{driven-by}
-use Rattle.board.proofs.Every.{every-yes, every-no, times-yes, times-no}
+use Rattle.board.proofs.Every.{times-yes, times-no}
 use Rattle.board.proofs.wires.times_in.Needs as need
 use Rattle.board.proofs.wires.times_in.Needs.{then-s-i, else-s-i}
 
