@@ -1,1 +1,4 @@
 pub mod Passes
+pub mod Machine
+pub mod InPlace
+pub mod Windows
