@@ -17,12 +17,8 @@ use Rattle.rules.specs.Boards.{Occurrence, no-occurrence, Module, no-module, mo
 use Rattle.rules.specs.Sound.{Refers, Sound}
 use Rattle.flat.specs.Passes.{own}
 use Rattle.flat.specs.Machine.{Doing, for-outputs, for-both, storing, Level, Machine, busy, halted, entered, part-ticks, entry-ticks, returned, stored-up, first-tick, second-tick, level-tick, tick, Sound-machine, Deep-levels, Deep, Stays-deep, By-number}
+use Rattle.flat.proofs.Sums.{most-at}
 use Rattle.flat.proofs.Lists.{T-true, drop-head, drop-within, refer-left, refer-at, state-left}
-
-most-of-at : {X : Type 0} (g : X → ℕ) (d : X) (xs : List X) (i : ℕ) → i < length xs → g (getD xs i d) ≤ most-of g xs
-most-of-at g d [] i h = absurd (not-suc-le-zero h)
-most-of-at g d (x ∷ xs) zero h = omega arith
-most-of-at g d (x ∷ xs) (suc i) h = let ih = most-of-at g d xs i (le-of-suc-le-suc h) in omega arith
 
 module _ {V : Type 0} (K : Kind V) (limit : ℕ) (f : Level V) (fs : List (Level V)) (deep : Deep-levels limit (f ∷ fs)) where
   entered-deep : (d : Design) → Sound d → depth d < depth (node (f .owner) (f .below)) → (ins cs : List V) (doing : Doing V) → Deep-levels limit (entered K d ins cs doing f ∷ f ∷ fs)
@@ -42,7 +38,7 @@ module _ {V : Type 0} (K : Kind V) (limit : ℕ) (f : Level V) (fs : List (Level
   entry-deep n rest s o None refer l = elim refer [ ]
 
   less-deep : (i : ℕ) → i < length (f .owner .occurrences) → of-module (λ j. depth (f .below j)) (part (occurrence-no (f .owner) i)) < depth (node (f .owner) (f .below))
-  less-deep i h = let g = most-of-at (λ (o : Occurrence). of-module (λ j. depth (f .below j)) (part o)) no-occurrence (f .owner .occurrences) i h in omega arith
+  less-deep i h = let g = most-at (λ (o : Occurrence). of-module (λ j. depth (f .below j)) (part o)) no-occurrence (f .owner .occurrences) i h in omega arith
 
   returned-deep : (vs : List V) (n : ℕ) (gs : List (Level V)) → Deep-levels limit gs → Deep limit (returned K vs gs n)
   returned-deep vs n [] h = tt

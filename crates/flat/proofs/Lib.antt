@@ -6,3 +6,9 @@ pub mod Ticks
 pub mod Deep
 pub mod InPlace
 pub mod Windows
+pub mod Keep
+pub mod Through
+pub mod CellPlaces
+pub mod Settle
+pub mod Exist
+pub mod Count

@@ -2,12 +2,12 @@
 use mathlib.Core.Path.{_≡_, refl, sym, ap, ap₂, subst, _∙_}
 use mathlib.Core.Bool.{Bool, true, false, cond}
 use mathlib.Core.List.{List, [], _∷_, _++_, map}
-use Prim.Native.Nat.{ℕ, zero, suc, _+_, _*_, _≤_, _<_}
+use Prim.Native.Nat.{ℕ, zero, suc, _+_, _*_, max, _≤_, _<_}
 use native.Mathlib.Nat.{not-suc-le-zero, le-of-suc-le-suc}
 use native.Mathlib.Omega.{arith}
 use lib.Dec.{eqb, ltb, eqb-refl, T, lt→ltb, eqb·zero-suc, eqb·suc-zero, eqb·suc-suc}
 use lib.ListN.{length, getD}
-use Rattle.rules.specs.Boards.{no-occurrence, Module, Design, node, part, sum-of, cells-of, cells, cells-at}
+use Rattle.rules.specs.Boards.{no-occurrence, Module, Design, node, part, sum-of, most-of, cells-of, cells, cells-at}
 use Rattle.rules.specs.Wires.{times}
 use Rattle.rules.specs.Judging.{times-due}
 use Rattle.rules.specs.Sound.{All, Sound}
@@ -86,3 +86,8 @@ cells-by-states m below sound =
     sum-places no-occurrence (λ o. cells-of (λ j. cells (below j)) (part o)) (m .occurrences)
     ∙ sym (upto-on n (λ i. cond (ltb 0 (cells-at m below i)) (cells-at m below i) 0) (cells-at m below) (λ i h. held (cells-at m below i)))
     ∙ sym (sum-states m below sound (cells-at m below))
+
+pub most-at : {X : Type 0} (g : X → ℕ) (d : X) (xs : List X) (i : ℕ) → i < length xs → g (getD xs i d) ≤ most-of g xs
+most-at g d [] i h = absurd (not-suc-le-zero h)
+most-at g d (x ∷ xs) zero h = omega arith
+most-at g d (x ∷ xs) (suc i) h = let ih = most-at g d xs i (le-of-suc-le-suc h) in omega arith

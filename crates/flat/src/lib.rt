@@ -1,7 +1,33 @@
 // A step by two passes, the flat board, and the law for runs: definitions and theorems, with no program.
 ghost use Rattle.flat.specs.InPlace.{Cells-in-place};
+ghost use Rattle.flat.specs.Laws.{Bits-agree, Cells-stay, Counts, Flat-step, Passes-keep};
 ghost use Rattle.flat.specs.Machine.{By-number, Machine-keeps, Stays-deep, Ticks-fall};
 ghost use Rattle.flat.specs.Windows.{Windows-show};
+
+// Both passes keep any relation that the gates keep.
+pub fn passes_keep<V, W>()
+    ensures { λ _. ⌜ Passes-keep V W ⌝ }
+{}
+
+// Exactly one set of bits agrees on the flat board.
+pub fn bits_agree()
+    ensures { λ _. ⌜ Bits-agree ⌝ }
+{}
+
+// The flat step is the two passes on bits.
+pub fn flat_step_stands()
+    ensures { λ _. ⌜ Flat-step ⌝ }
+{}
+
+// A step counts each flat gate once, and once more for every cell-holding module below the top on the way to it.
+pub fn counts_stand<V>()
+    ensures { λ _. ⌜ Counts V ⌝ }
+{}
+
+// A step keeps the number of cells.
+pub fn cells_stay<V>()
+    ensures { λ _. ⌜ Cells-stay V ⌝ }
+{}
 
 // A machine over a stack of levels comes to the two passes.
 pub fn machine_stands<V>()
