@@ -12,3 +12,6 @@ pub mod CellPlaces
 pub mod Settle
 pub mod Exist
 pub mod Count
+pub mod Places
+pub mod Refusals
+pub mod Runs

@@ -112,7 +112,7 @@ module _ (m : Module) (below : ℕ → Design) (sound : Sound (node m below)) (i
   wires-known : (w : ℕ) → w < m .wires → b [] w ≡ first bits (node m below) ins (cell-bits (node m below) store) .values w
   wires-known = module-known below (λ j. outputs-known (below j)) store b m sound ins agree
 
-  ins-known : (i : ℕ) → i < length (m .occurrences) → map (b []) (occurrence-no m i .ins) ≡ map (first bits (node m below) ins (cell-bits (node m below) store) .values) (occurrence-no m i .ins)
+  pub ins-known : (i : ℕ) → i < length (m .occurrences) → map (b []) (occurrence-no m i .ins) ≡ map (first bits (node m below) ins (cell-bits (node m below) store) .values) (occurrence-no m i .ins)
   ins-known i h =
       map-on (λ w. w < m .wires) (b []) (first bits (node m below) ins (cell-bits (node m below) store) .values) wires-known (occurrence-no m i .ins) (fits-at m below sound i h .1 .wire-in)
 

@@ -4,3 +4,6 @@ pub mod InPlace
 pub mod Windows
 pub mod Flat
 pub mod Laws
+pub mod Runs
+pub mod FlatRuns
+pub mod RunLaws

@@ -1,8 +1,23 @@
 // A step by two passes, the flat board, and the law for runs: definitions and theorems, with no program.
+ghost use Rattle.rules.specs.Boards.{Design};
+ghost use Rattle.rules.specs.Sound.{Sound};
 ghost use Rattle.flat.specs.InPlace.{Cells-in-place};
 ghost use Rattle.flat.specs.Laws.{Bits-agree, Cells-stay, Counts, Flat-step, Passes-keep};
 ghost use Rattle.flat.specs.Machine.{By-number, Machine-keeps, Stays-deep, Ticks-fall};
+ghost use Rattle.flat.specs.RunLaws.{Law-for-powered-runs, Law-for-runs};
 ghost use Rattle.flat.specs.Windows.{Windows-show};
+use signal::Signal;
+use signal::WithUnknown;
+
+// The law for runs that are powered.
+pub fn law_for_powered_runs<K: Signal>()
+    ensures { λ _. ⌜ ((d : Design) → Sound d → Law-for-powered-runs (K·Signal .kind) d) ⌝ }
+{}
+
+// The law for runs that are powered or started cold.
+pub fn law_for_runs<K: WithUnknown>()
+    ensures { λ _. ⌜ ((d : Design) → Sound d → Law-for-runs (K·Signal .kind) d (K·WithUnknown .blank)) ⌝ }
+{}
 
 // Both passes keep any relation that the gates keep.
 pub fn passes_keep<V, W>()

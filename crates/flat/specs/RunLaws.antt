@@ -1,0 +1,121 @@
+-- The law for runs: a simulated run never denies what the flat run does.
+use mathlib.Core.Path.{_≡_}
+use mathlib.Core.Bool.{Bool}
+use mathlib.Core.List.{List, [], _∷_}
+use Prim.Native.Nat.{ℕ, _*_}
+use lib.ListN.{length}
+use Rattle.signal.specs.Kinds.{Kind, Situation, Admits, Settled}
+use Rattle.signal.specs.GateValues.{All-settled}
+use Rattle.rules.specs.Boards.{Design, out-wires, cells}
+use Rattle.rules.specs.Sound.{All}
+use Rattle.flat.specs.Flat.{Store, One-agrees, cell-bits, flat-count}
+use Rattle.flat.specs.Laws.{All2}
+use Rattle.flat.specs.Runs.{Room, Call, step, set-cell, clear, read, look, Answer, refused, counted, done, value-is, Start, not-started, started, Run, Outcome, start-with, power, trace}
+use Rattle.flat.specs.FlatRuns.{Flat, Flat-outcome, Flat-run, Flat-start, Flat-power}
+
+-- a. A run and a flat run
+
+-- the same call: the same numbers and lengths, and a related value for each value
+pub data Fed {V W : Type 0} (R : V → W → Type 0) : Call V → Call W → Type 0 where
+  fed-step : (ins : List V) (js : List W) (r : Room) → All2 R ins js → Fed R (step ins r) (step js r)
+  fed-set : (k : ℕ) (v : V) (w : W) (n : ℕ) → R v w → Fed R (set-cell k v n) (set-cell k w n)
+  fed-clear : (n : ℕ) → Fed R (clear n) (clear n)
+  fed-read : (k n : ℕ) → Fed R (read k n) (read k n)
+  fed-look : (k j n t : ℕ) → Fed R (look k j n t) (look k j n t)
+
+-- the answers of a run and of a flat run: the flat run counts no gates
+pub data Answered {V : Type 0} (R : V → Bool → Type 0) : Answer V → Answer Bool → Type 0 where
+  both-refused : (n : ℕ) → Answered R (refused n) (refused n)
+  both-stepped : (n : ℕ) → Answered R (counted n) done
+  both-done : Answered R done done
+  both-value : (v : V) (b : Bool) → R v b → Answered R (value-is v) (value-is b)
+
+-- all cells and the tape values, one by one, and the cycle
+pub record Alike {V : Type 0} (R : V → Bool → Type 0) (d : Design) (s : Run V) (f : Flat) : Type 0 where
+  pub cells : All2 R (s .cells) (cell-bits d (f .store))
+  pub tape : All2 R (s .tape) (f .tape)
+  pub cycle : s .cycle ≡ f .cycle
+
+pub record Matches {V : Type 0} (R : V → Bool → Type 0) (d : Design) (o : Outcome V) (p : Flat-outcome) : Type 0 where
+  pub run : Alike R d (o .run) (p .run)
+  pub answer : Answered R (o .answer) (p .answer)
+
+-- both starts are refused by the same number, or both give runs of which P holds
+abbrev pub Both-start : {V : Type 0} → (Run V → Flat → Type 0) → Start (Run V) → Start Flat → Type 0
+Both-start P (not-started n) (not-started m) = n ≡ m
+Both-start P (not-started n) (started f) = ⊥
+Both-start P (started s) (not-started m) = ⊥
+Both-start P (started s) (started f) = P s f
+
+module _ {V : Type 0} (K : Kind V) (s : Situation) where
+  abbrev pub Admits-there : V → Bool → Type 0
+  Admits-there v b = Admits K v s b
+
+  -- whatever bits are put for the values handed in, of those that these admit in the situation: after every call every value
+  -- given back admits the flat run's bit there, both refuse by the same number and stand at the same cycle
+  abbrev pub Never-denies : Design → Run V → Flat → Type 0
+  Never-denies d run flat =
+      Alike Admits-there d run flat × ((calls : List (Call V)) (flat-calls : List (Call Bool)) → All2 (Fed Admits-there) calls flat-calls → (os : List Flat-outcome) → Flat-run d flat flat-calls os → All2 (Matches Admits-there d) (trace K d run calls) os)
+
+  -- b. Settled values
+
+  abbrev pub Settled-in : Call V → Type 0
+  Settled-in (step ins r) = All-settled K ins s
+  Settled-in (set-cell k v n) = Settled K v s
+  Settled-in (clear n) = Unit {0}
+  Settled-in (read k n) = Unit {0}
+  Settled-in (look k j n t) = Unit {0}
+
+  abbrev pub Settled-answer : Answer V → Type 0
+  Settled-answer (refused n) = Unit {0}
+  Settled-answer (counted n) = Unit {0}
+  Settled-answer done = Unit {0}
+  Settled-answer (value-is v) = Settled K v s
+
+  pub record Settled-out (o : Outcome V) : Type 0 where
+    pub cells : All-settled K (o .run .cells) s
+    pub tape : All-settled K (o .run .tape) s
+    pub answer : Settled-answer (o .answer)
+
+-- c. The count
+
+abbrev pub Counts-right : {V : Type 0} → Design → Answer V → Type 0
+Counts-right d (refused n) = Unit {0}
+Counts-right d (counted n) = n ≡ flat-count d
+Counts-right d done = Unit {0}
+Counts-right d (value-is v) = Unit {0}
+
+-- there are as many cells as the board has, and as many tape values as its outputs have given in the cycles so far
+pub record Sized {V : Type 0} (d : Design) (s : Run V) : Type 0 where
+  pub cells : length (s .cells) ≡ cells d
+  pub tape : length (s .tape) ≡ s .cycle * length (out-wires d)
+
+-- there is one, and no other
+abbrev pub One : {X : Type 0} → (X → Type 0) → Type 0
+One {X} P = (x : X) × P x × ((y : X) → P y → y ≡ x)
+
+-- The law
+
+-- one set of bits agrees with any inputs and stored bits, and there is one flat run for any start and calls
+pub record One-flat-run (d : Design) : Type 0 where
+  pub bits : One-agrees d
+  pub start : (store : Store) (n : ℕ) → One (Flat-start d store n)
+  pub run : (flat : Flat) (calls : List (Call Bool)) → One (Flat-run d flat calls)
+
+module _ {V : Type 0} (K : Kind V) (d : Design) where
+  pub record Law-for-powered-runs : Type 0 where
+    pub never-denies : (s : Situation) (n : ℕ) (f : Start Flat) → Flat-power d n f → Both-start (Never-denies K s d) (power K d n) f
+    pub stays-settled : (s : Situation) (n : ℕ) (run : Run V) → power K d n ≡ started run → (calls : List (Call V)) → All (Settled-in K s) calls → All (Settled-out K s) (trace K d run calls)
+    pub counts : (n : ℕ) (run : Run V) → power K d n ≡ started run → (calls : List (Call V)) → All (λ o. Counts-right d (o .answer)) (trace K d run calls)
+    pub sizes : (n : ℕ) (run : Run V) → power K d n ≡ started run → (calls : List (Call V)) → All (λ o. Sized d (o .run)) (trace K d run calls)
+    pub one : One-flat-run d
+
+  -- started cold, with u in all cells: for each of them either bit
+  pub record Law-for-cold-runs (u : V) : Type 0 where
+    pub never-denies : (s : Situation) (store : Store) (n : ℕ) (f : Start Flat) → Flat-start d store n f → Both-start (Never-denies K s d) (start-with d u n) f
+    pub counts : (n : ℕ) (run : Run V) → start-with d u n ≡ started run → (calls : List (Call V)) → All (λ o. Counts-right d (o .answer)) (trace K d run calls)
+    pub sizes : (n : ℕ) (run : Run V) → start-with d u n ≡ started run → (calls : List (Call V)) → All (λ o. Sized d (o .run)) (trace K d run calls)
+
+  pub record Law-for-runs (u : V) : Type 0 where
+    pub powered : Law-for-powered-runs
+    pub cold : Law-for-cold-runs u
