@@ -1,10 +1,12 @@
 -- The gates keep to the truth table, on bits and on any kind that keeps the rules.
-use mathlib.Core.Path.{_≡_, refl, sym, _∙_, ap, subst}
+use mathlib.Core.Path.{_≡_, refl, sym, _∙_, ap, ap₂, subst}
 use mathlib.Core.Bool.{Bool, true, false}
 use mathlib.Core.List.{List, [], _∷_, map}
 use Prim.Native.Nat.{ℕ, zero, suc, _<_}
 use native.Mathlib.Omega.{arith}
+use lib.Dec.{lit<}
 use lib.ListN.{length, getD, take}
+use lib.Seq.{getD-take}
 use Rattle.gates.specs.declared.Gate.{Gate}
 use Rattle.gates.specs.declared.Gate.the-variants.{Low, High, Buf, Not, And, Or, Xor, Nand, Nor, Xnor, Pick}
 use Rattle.gates.specs.Gates.{inputs-of, gate-bit}
@@ -72,6 +74,27 @@ module _ {V : Type 0} (k : Kind V) where
   gate-value-reads Xnor vs = refl
   gate-value-reads Pick vs = refl
 
+  -- a gate reads its inputs and nothing else
+  pub gate-value-same : (g : Gate) (vs ws : List V) → ((i : ℕ) → i < inputs-of g → input k vs i ≡ input k ws i) → gate-value k g vs ≡ gate-value k g ws
+  gate-value-same Low vs ws h = refl
+  gate-value-same High vs ws h = refl
+  gate-value-same Buf vs ws h = h 0 (lit< tt)
+  gate-value-same Not vs ws h = ap (k .not) (h 0 (lit< tt))
+  gate-value-same And vs ws h = ap₂ (k .and) (h 0 (lit< tt)) (h 1 (lit< tt))
+  gate-value-same Or vs ws h = ap₂ (k .or) (h 0 (lit< tt)) (h 1 (lit< tt))
+  gate-value-same Xor vs ws h = ap₂ (k .xor) (h 0 (lit< tt)) (h 1 (lit< tt))
+  gate-value-same Nand vs ws h = ap (k .not) (ap₂ (k .and) (h 0 (lit< tt)) (h 1 (lit< tt)))
+  gate-value-same Nor vs ws h = ap (k .not) (ap₂ (k .or) (h 0 (lit< tt)) (h 1 (lit< tt)))
+  gate-value-same Xnor vs ws h = ap (k .not) (ap₂ (k .xor) (h 0 (lit< tt)) (h 1 (lit< tt)))
+  gate-value-same Pick vs ws h =
+      let a = h 0 (lit< tt) in
+      let b = h 1 (lit< tt) in
+      let c = h 2 (lit< tt) in
+      cc (a, b, c)
+
+  pub gate-value-take : (g : Gate) (vs : List V) → gate-value k g (take (inputs-of g) vs) ≡ gate-value k g vs
+  gate-value-take g vs = gate-value-same g (take (inputs-of g) vs) vs (λ i l. getD-take (inputs-of g) vs i (k .low) l)
+
   -- values that admit bits one by one, or are settled each; an input that is missing is low, and its bit 0
   pub all-admit-map : {A : Type 0} (s : Situation) (f : A → V) (g : A → Bool) → ((x : A) → Admits k (f x) s (g x)) → (xs : List A) → All-admit k (map f xs) s (map g xs)
   all-admit-map s f g h [] = tt
@@ -100,8 +123,8 @@ module _ {V : Type 0} (k : Kind V) where
     input-settled (v ∷ vs) s (a, h) zero = a
     input-settled (v ∷ vs) s (a, h) (suc i) = input-settled vs s h i
 
-    -- the gate's value follows its bit; a list may be of any length here
-    gate-follows : (g : Gate) (vs : List V) (s : Situation) (bs : List Bool) → ((i : ℕ) → Admits k (input k vs i) s (getD bs i false)) → Admits k (gate-value k g vs) s (gate-value bits g bs)
+    -- the gate's value follows its bit, input by input
+    pub gate-follows : (g : Gate) (vs : List V) (s : Situation) (bs : List Bool) → ((i : ℕ) → Admits k (input k vs i) s (getD bs i false)) → Admits k (gate-value k g vs) s (gate-value bits g bs)
     gate-follows Low vs s bs h = law .low-only s .0
     gate-follows High vs s bs h = law .high-only s .0
     gate-follows Buf vs s bs h = h 0
@@ -119,7 +142,7 @@ module _ {V : Type 0} (k : Kind V) where
         let P : Bool → Type 0 = λ b. Admits k (gate-value k g vs) s b in
         subst P (gates-on-bits g bs (sym (all-admit-length vs s bs h) ∙ e)) (gate-follows g vs s bs (input-admits vs s bs h))
 
-    gate-settles : (g : Gate) (vs : List V) (s : Situation) → ((i : ℕ) → Settled k (input k vs i) s) → Settled k (gate-value k g vs) s
+    pub gate-settles : (g : Gate) (vs : List V) (s : Situation) → ((i : ℕ) → Settled k (input k vs i) s) → Settled k (gate-value k g vs) s
     gate-settles Low vs s h = (false, law .low-only s)
     gate-settles High vs s h = (true, law .high-only s)
     gate-settles Buf vs s h = h 0
@@ -136,4 +159,4 @@ module _ {V : Type 0} (k : Kind V) where
     gate-settled g vs s h = gate-settles g vs s (input-settled vs s h)
 
     pub gates-stand : Gates-stand k
-    gates-stand = record { admit = gate-admits; settled = gate-settled }
+    gates-stand = record { reads = gate-value-take; admits-bit = gate-admits; stays-settled = gate-settled }

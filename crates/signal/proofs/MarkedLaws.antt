@@ -9,7 +9,7 @@ use lib.Dec.{ltb}
 use Rattle.std.proofs.shelf.Tests.{and-right, or-from, lt-ltb}
 use Rattle.std.specs.declared.option.Option.the-variants.{Some, None}
 use Rattle.signal.specs.declared.marks.Marks.{Marks}
-use Rattle.signal.specs.Kinds.{Kind, Lawful, Situation, differ, Settled, Only, Admits, Admits-both, Follows-1, Follows-2, Follows-3, Settles-1, Settles-2, Settles-3}
+use Rattle.signal.specs.Kinds.{Kind, Lawful, Situation, differ, Settled, Only, Admits, Admits-both, Follows-2, Follows-3, Settles-2, Settles-3}
 use Rattle.signal.specs.Sets.{has, some-below, meets}
 use Rattle.signal.specs.Marked.{marked, with-marks, united}
 use Rattle.signal.proofs.Situations.{not-both, never-some, all-marks, none-otherwise}

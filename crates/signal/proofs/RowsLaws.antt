@@ -1,13 +1,12 @@
 -- Rows keep the rules of a kind.
 use mathlib.Core.Path.{_≡_, refl, sym, _∙_, ap, ap₂}
-use mathlib.Core.Bool.{Bool, true, false, not, cond, _&&_, _||_, Bool·beq}
+use mathlib.Core.Bool.{Bool, true, false, not, cond, _&&_, _||_}
 use mathlib.Core.Logic.{_↔_}
-use Prim.Native.Nat.{ℕ, _<_, _^_}
+use Prim.Native.Nat.{ℕ, _<_}
 use lib.Bits.{bitAnd, bitOr, bitXor}
 use lib.Dec.{lit<}
-use Rattle.std.specs.declared.option.Option.{Option}
 use Rattle.std.specs.declared.option.Option.the-variants.{Some, None}
-use Rattle.signal.specs.Kinds.{Kind, Lawful, Situation, differ, Settled, Only, Admits}
+use Rattle.signal.specs.Kinds.{Lawful, Situation, differ, Settled, Only, Admits}
 use Rattle.signal.specs.Sets.{has, some-below, each-below}
 use Rattle.signal.specs.Rows.{rows, told-rows, not-rows}
 use Rattle.signal.proofs.Situations.{row-0, at-row, not-both, not-both', same-some, never-some, beq-self, beq-not, beq-is, none-otherwise}

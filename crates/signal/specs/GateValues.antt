@@ -3,7 +3,7 @@ use mathlib.Core.Path.{_≡_}
 use mathlib.Core.Bool.{Bool}
 use mathlib.Core.List.{List, [], _∷_}
 use Prim.Native.Nat.{ℕ}
-use lib.ListN.{length, getD}
+use lib.ListN.{length, getD, take}
 use Rattle.gates.specs.declared.Gate.{Gate}
 use Rattle.gates.specs.declared.Gate.the-variants.{Low, High, Buf, Not, And, Or, Xor, Nand, Nor, Xnor, Pick}
 use Rattle.gates.specs.Gates.{inputs-of, gate-bit}
@@ -43,8 +43,9 @@ module _ {V : Type 0} (k : Kind V) where
   All-settled [] s = Unit {0}
   All-settled (v ∷ vs) s = Settled k v s × All-settled vs s
 
-  -- a gate whose inputs admit certain bits admits the bit that the truth table has for these; settled inputs give a
-  -- settled output
+  -- how the gates stand on the kind: a gate reads no more values than it has inputs; if its inputs admit certain bits,
+  -- its output admits the bit that the truth table has for these; if they are settled, so is its output
   pub record Gates-stand : Type 0 where
-    pub admit : (g : Gate) (vs : List V) (s : Situation) (bs : List Bool) → length vs ≡ inputs-of g → All-admit vs s bs → Admits k (gate-value k g vs) s (gate-bit g bs)
-    pub settled : (g : Gate) (vs : List V) (s : Situation) → All-settled vs s → Settled k (gate-value k g vs) s
+    pub reads : (g : Gate) (vs : List V) → gate-value k g (take (inputs-of g) vs) ≡ gate-value k g vs
+    pub admits-bit : (g : Gate) (vs : List V) (s : Situation) (bs : List Bool) → length vs ≡ inputs-of g → All-admit vs s bs → Admits k (gate-value k g vs) s (gate-bit g bs)
+    pub stays-settled : (g : Gate) (vs : List V) (s : Situation) → All-settled vs s → Settled k (gate-value k g vs) s

@@ -1,3 +1,4 @@
+// Bits: 0 and 1.
 ghost use Rattle.signal.specs.Bits.{bits as the-bits};
 use super::Signal;
 

@@ -1,3 +1,4 @@
+// Three levels: 0, 1 and unknown.
 ghost use Rattle.signal.specs.Levels.{levels as the-levels};
 ghost use Rattle.signal.specs.declared.levels.Level.the-variants.{Unknown};
 use super::Signal;
@@ -37,16 +38,16 @@ pub impl Signal for Level as Levels {
 
     fn and(self, other: Level) -> Level {
         match (self, other) {
-            (Level::Zero, _) | (_, Level::Zero) => Level::Zero,
             (Level::One, Level::One) => Level::One,
+            (Level::Zero, _) | (_, Level::Zero) => Level::Zero,
             _ => Level::Unknown,
         }
     }
 
     fn or(self, other: Level) -> Level {
         match (self, other) {
-            (Level::One, _) | (_, Level::One) => Level::One,
             (Level::Zero, Level::Zero) => Level::Zero,
+            (Level::One, _) | (_, Level::One) => Level::One,
             _ => Level::Unknown,
         }
     }

@@ -10,7 +10,7 @@ pub mod bits;
 pub mod levels;
 pub mod marks;
 pub mod rows;
-pub mod sets;
+mod sets;
 
 pub trait Signal: Copy {
     // The letter that names the kind: B, T, R or M.

@@ -1,3 +1,6 @@
+// Marks over any kind: a value below and a set of marks.
+ghost use lib.Bits.{bitOr};
+ghost use mathlib.Core.Path.{_≡_};
 ghost use Rattle.signal.specs.Marked.{marked, with-marks};
 use super::Signal;
 use super::WithUnknown;
@@ -9,6 +12,16 @@ const LETTER: char = 'M';
 pub struct Marks<K> {
     pub below: K,
     pub marks: u64,
+}
+
+// A value under the marks of two operands.
+fn under_both<K: Signal>(below: K, first: u64, second: u64) -> Marks<K>
+    ensures { λ r. ⌜ r ≡ with-marks below (bitOr first second) ⌝ }
+{
+    Marks {
+        below,
+        marks: first | second,
+    }
 }
 
 pub impl<K: Signal> Signal for Marks<K> as Marked {
@@ -42,24 +55,15 @@ pub impl<K: Signal> Signal for Marks<K> as Marked {
     }
 
     fn and(self, other: Marks<K>) -> Marks<K> {
-        Marks {
-            below: self.below.and(other.below),
-            marks: self.marks | other.marks,
-        }
+        under_both(self.below.and(other.below), self.marks, other.marks)
     }
 
     fn or(self, other: Marks<K>) -> Marks<K> {
-        Marks {
-            below: self.below.or(other.below),
-            marks: self.marks | other.marks,
-        }
+        under_both(self.below.or(other.below), self.marks, other.marks)
     }
 
     fn xor(self, other: Marks<K>) -> Marks<K> {
-        Marks {
-            below: self.below.xor(other.below),
-            marks: self.marks | other.marks,
-        }
+        under_both(self.below.xor(other.below), self.marks, other.marks)
     }
 
     fn pick(self, first: Marks<K>, second: Marks<K>) -> Marks<K> {
@@ -72,8 +76,7 @@ pub impl<K: Signal> Signal for Marks<K> as Marked {
     fn told(self) -> Option<bool> {
         match self.below.told() {
             Some(_) if any_bit(self.marks) => None,
-            Some(b) if b => Some(true),
-            Some(_) => Some(false),
+            Some(bit) => Some(bit),
             None => None,
         }
     }

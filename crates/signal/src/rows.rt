@@ -1,3 +1,4 @@
+// Rows: 64 bits side by side, one for each row.
 ghost use Rattle.signal.specs.Rows.{rows as the-rows};
 use super::Signal;
 use super::sets::any_bit;
