@@ -25,8 +25,8 @@ use Rattle.flat.specs.Passes.{first, outputs, next, step-of}
 use Rattle.flat.specs.Flat.{Place, Store, Bits, inside, Agrees-at, Agrees, flat-outputs, input-inside, input-bit, cell-places, cell-bits, flat-count}
 use Rattle.flat.specs.Laws.{All2, Gates-keep}
 use Rattle.flat.specs.Runs.{Room, Call, step, set-cell, clear, read, look, Answer, refused, counted, done, value-is, Start, not-started, started, Run, Outcome, refusal, start-with, power, performed, carried-out, call, trace}
-use Rattle.flat.specs.FlatRuns.{Flat, Flat-outcome, Wrong, Refuses, Accepts, written, cell-place, Flat-performed, Flat-refused, Flat-call, Flat-run, Flat-start, Flat-power}
-use Rattle.flat.specs.RunLaws.{Fed, fed-step, fed-set, fed-clear, fed-read, fed-look, Answered, both-refused, both-stepped, both-done, both-value, Alike, Matches, Both-start, Admits-there, Never-denies, Settled-in, Settled-answer, Settled-out, Counts-right, Sized, One, One-flat-run, Law-for-powered-runs, Law-for-cold-runs, Law-for-runs}
+use Rattle.flat.specs.FlatRuns.{Flat, Flat-outcome, Wrong, Refuses, Accepts, written, cell-place, Flat-performed, Flat-refused, Flat-call, Flat-run, Flat-start}
+use Rattle.flat.specs.RunLaws.{Fed, fed-step, fed-set, fed-clear, fed-read, fed-look, Answered, both-refused, both-stepped, both-done, both-value, Alike, Matches, Both-start, Admits-there, Follows, Settled-in, Settled-answer, Settled-out, Counts-right, Sized, One, One-flat-run, Law-for-powered-runs, Law-for-cold-runs, Law-for-runs}
 use Rattle.flat.proofs.Lists.{map-on, refer-at}
 use Rattle.flat.proofs.Keep.{keep, getD-rel, append-rel, length-rel}
 use Rattle.flat.proofs.Walk.{next-length}
@@ -130,7 +130,7 @@ module _ {V : Type 0} (K : Kind V) (R : V → Bool → Type 0) (laws : Gates-kee
   call-rel s f a c e h o p =
       carried-rel s f a h o p (refusal d (s .cycle) c) (subst (λ n. Decided (refusal d n c) (Wrong d (f .cycle) e)) (sym (a .cycle)) (decides R d sound (f .cycle) h))
 
-  pub trace-rel : (s : Run V) (f : Flat) → Alike R d s f → (cs : List (Call V)) (es : List (Call Bool)) → All2 (Fed R) cs es → (os : List Flat-outcome) → Flat-run d f es os → All2 (Matches R d) (trace K d s cs) os
+  pub trace-rel : (s : Run V) (f : Flat) → Alike R d s f → (cs : List (Call V)) (es : List (Call Bool)) → All2 (Fed R) cs es → (os : List Flat-outcome) → Flat-run d f es os → All2 (Matches R d) (trace (call K d) s cs) os
   trace-rel s f a [] [] h [] run = tt
   trace-rel s f a [] [] h (o ∷ os) run = elim run [ ]
   trace-rel s f a [] (e ∷ es) h os run = elim h [ ]
@@ -292,7 +292,7 @@ module _ {V : Type 0} (K : Kind V) (d : Design) where
   performed-counts sound s (read k n) = tt
   performed-counts sound s (look k j n t) = tt
 
-  trace-counts : Sound d → (s : Run V) (cs : List (Call V)) → All (λ o. Counts-right d (o .answer)) (trace K d s cs)
+  trace-counts : Sound d → (s : Run V) (cs : List (Call V)) → All (λ o. Counts-right d (o .answer)) (trace (call K d) s cs)
   trace-counts sound s [] = tt
   trace-counts sound s (c ∷ cs) = (call-all (λ o. Counts-right d (o .answer)) s c (performed-counts sound s c) (λ n. tt), trace-counts sound (call K d s c .run) cs)
 
@@ -308,7 +308,7 @@ module _ {V : Type 0} (K : Kind V) (d : Design) where
   performed-sized sound s (read k n) h = h
   performed-sized sound s (look k j n t) h = h
 
-  trace-sized : Sound d → (s : Run V) → Sized d s → (cs : List (Call V)) → All (λ o. Sized d (o .run)) (trace K d s cs)
+  trace-sized : Sound d → (s : Run V) → Sized d s → (cs : List (Call V)) → All (λ o. Sized d (o .run)) (trace (call K d) s cs)
   trace-sized sound s h [] = tt
   trace-sized sound s h (c ∷ cs) =
       let x = call-all (λ o. Sized d (o .run)) s c (performed-sized sound s c h) (λ n. h) in
@@ -342,7 +342,7 @@ module _ {V : Type 0} (K : Kind V) (law : Lawful K) (s : Situation) (d : Design)
   performed-settled t (read k n) a b h = record { cells = a; tape = b; answer = input-settled K law (t .cells) s a k }
   performed-settled t (look k j n u) a b h = record { cells = a; tape = b; answer = input-settled K law (t .tape) s b (k * length (out-wires d) + j) }
 
-  trace-settled : (t : Run V) → All-settled K (t .cells) s → All-settled K (t .tape) s → (cs : List (Call V)) → All (Settled-in K s) cs → All (Settled-out K s) (trace K d t cs)
+  trace-settled : (t : Run V) → All-settled K (t .cells) s → All-settled K (t .tape) s → (cs : List (Call V)) → All (Settled-in K s) cs → All (Settled-out K s) (trace (call K d) t cs)
   trace-settled t a b [] h = tt
   trace-settled t a b (c ∷ cs) h =
       let x = call-all K d (Settled-out K s) t c (performed-settled t c a b (h .0)) (λ n. record { cells = a; tape = b; answer = tt }) in
@@ -351,8 +351,8 @@ module _ {V : Type 0} (K : Kind V) (law : Lawful K) (s : Situation) (d : Design)
 -- The law
 
 module _ {V : Type 0} (K : Kind V) (law : Lawful K) (d : Design) (sound : Sound d) where
-  fresh-denies : (s : Situation) (v : V) (n : ℕ) (store : Store) → ((p : Place) → Admits K v s (store p)) → Never-denies K s d (fresh-run d v n) (record { store = store; tape = []; cycle = 0 })
-  fresh-denies s v n store h =
+  fresh-follows : (s : Situation) (v : V) (n : ℕ) (store : Store) → ((p : Place) → Admits K v s (store p)) → Follows K d (start-with d v) (call K d) s (fresh-run d v n) (record { store = store; tape = []; cycle = 0 })
+  fresh-follows s v n store h =
       let R = Admits-there K s in
       let laws = gates-admit K law s in
       let f : Flat = record { store = store; tape = []; cycle = 0 } in
@@ -361,9 +361,9 @@ module _ {V : Type 0} (K : Kind V) (law : Lawful K) (d : Design) (sound : Sound 
 
   pub powered-law : Law-for-powered-runs K d
   powered-law = record {
-    never-denies = λ s n f h. start-rel d (K .low) n sound (Never-denies K s d) (λ p. false) (fresh-denies s (K .low) n (λ p. false) (λ p. law .low-only s .0)) f h;
+    never-denies = λ s n f h. start-rel d (K .low) n sound (Follows K d (power K d) (call K d) s) (λ p. false) (fresh-follows s (K .low) n (λ p. false) (λ p. law .low-only s .0)) f h;
     stays-settled = λ s n run e calls h.
-        subst (λ (t : Run V). All (Settled-out K s) (trace K d t calls)) (sym (start-run d (K .low) n run e)) (trace-settled K law s d sound (fresh-run d (K .low) n) (settled-replicate K law s d sound (cells d)) tt calls h);
+        subst (λ (t : Run V). All (Settled-out K s) (trace (call K d) t calls)) (sym (start-run d (K .low) n run e)) (trace-settled K law s d sound (fresh-run d (K .low) n) (settled-replicate K law s d sound (cells d)) tt calls h);
     counts = λ n run e calls. trace-counts K d sound run calls;
     sizes = λ n run e calls. trace-sized K d sound run (subst (Sized d) (sym (start-run d (K .low) n run e)) (fresh-sized K d (K .low) n)) calls;
     one = one-flat-run d sound;
@@ -371,7 +371,7 @@ module _ {V : Type 0} (K : Kind V) (law : Lawful K) (d : Design) (sound : Sound 
 
   pub cold-law : (u : V) → Admits-both K u → Law-for-cold-runs K d u
   cold-law u both = record {
-    never-denies = λ s store n f h. start-rel d u n sound (Never-denies K s d) store (fresh-denies s u n store (λ p. both s (store p))) f h;
+    never-denies = λ store s n f h. start-rel d u n sound (Follows K d (start-with d u) (call K d) s) store (fresh-follows s u n store (λ p. both s (store p))) f h;
     counts = λ n run e calls. trace-counts K d sound run calls;
     sizes = λ n run e calls. trace-sized K d sound run (subst (Sized d) (sym (start-run d u n run e)) (fresh-sized K d u n)) calls;
   }

@@ -89,10 +89,7 @@ module _ (d : Design) where
   Flat-run s (c ∷ cs) [] = ⊥
   Flat-run s (c ∷ cs) (o ∷ os) = Flat-call s c o × Flat-run (o .run) cs os
 
-  -- a start from stored bits, with as many cells as are handed over
+  -- a start from stored bits, handed n cells; power starts from zeros, and cold from any bits
   abbrev pub Flat-start : Store → ℕ → Start Flat → Type 0
   Flat-start store n (not-started m) = (m ≡ 15) × (n ≢ length (cell-places d))
   Flat-start store n (started f) = (n ≡ length (cell-places d)) × (f ≡ record { store = store; tape = []; cycle = 0 })
-
-  abbrev pub Flat-power : ℕ → Start Flat → Type 0
-  Flat-power n f = Flat-start (λ p. false) n f

@@ -1,6 +1,6 @@
 -- The law for runs: a simulated run never denies what the flat run does.
 use mathlib.Core.Path.{_≡_}
-use mathlib.Core.Bool.{Bool}
+use mathlib.Core.Bool.{Bool, false}
 use mathlib.Core.List.{List, [], _∷_}
 use Prim.Native.Nat.{ℕ, _*_}
 use lib.ListN.{length}
@@ -10,10 +10,10 @@ use Rattle.rules.specs.Boards.{Design, out-wires, cells}
 use Rattle.rules.specs.Sound.{All}
 use Rattle.flat.specs.Flat.{Store, One-agrees, cell-bits, flat-count}
 use Rattle.flat.specs.Laws.{All2}
-use Rattle.flat.specs.Runs.{Room, Call, step, set-cell, clear, read, look, Answer, refused, counted, done, value-is, Start, not-started, started, Run, Outcome, start-with, power, trace}
-use Rattle.flat.specs.FlatRuns.{Flat, Flat-outcome, Flat-run, Flat-start, Flat-power}
+use Rattle.flat.specs.Runs.{Room, Call, step, set-cell, clear, read, look, Answer, refused, counted, done, value-is, Start, not-started, started, Run, Outcome, start-with, power, call, trace}
+use Rattle.flat.specs.FlatRuns.{Flat, Flat-outcome, Flat-run, Flat-start}
 
--- a. A run and a flat run
+-- A run and a flat run
 
 -- the same call: the same numbers and lengths, and a related value for each value
 pub data Fed {V W : Type 0} (R : V → W → Type 0) : Call V → Call W → Type 0 where
@@ -51,14 +51,6 @@ module _ {V : Type 0} (K : Kind V) (s : Situation) where
   abbrev pub Admits-there : V → Bool → Type 0
   Admits-there v b = Admits K v s b
 
-  -- whatever bits are put for the values handed in, of those that these admit in the situation: after every call every value
-  -- given back admits the flat run's bit there, both refuse by the same number and stand at the same cycle
-  abbrev pub Never-denies : Design → Run V → Flat → Type 0
-  Never-denies d run flat =
-      Alike Admits-there d run flat × ((calls : List (Call V)) (flat-calls : List (Call Bool)) → All2 (Fed Admits-there) calls flat-calls → (os : List Flat-outcome) → Flat-run d flat flat-calls os → All2 (Matches Admits-there d) (trace K d run calls) os)
-
-  -- b. Settled values
-
   abbrev pub Settled-in : Call V → Type 0
   Settled-in (step ins r) = All-settled K ins s
   Settled-in (set-cell k v n) = Settled K v s
@@ -77,8 +69,6 @@ module _ {V : Type 0} (K : Kind V) (s : Situation) where
     pub tape : All-settled K (o .run .tape) s
     pub answer : Settled-answer (o .answer)
 
--- c. The count
-
 abbrev pub Counts-right : {V : Type 0} → Design → Answer V → Type 0
 Counts-right d (refused n) = Unit {0}
 Counts-right d (counted n) = n ≡ flat-count d
@@ -90,11 +80,33 @@ pub record Sized {V : Type 0} (d : Design) (s : Run V) : Type 0 where
   pub cells : length (s .cells) ≡ cells d
   pub tape : length (s .tape) ≡ s .cycle * length (out-wires d)
 
+-- The parts of the law, for a way of starting runs and a way of carrying out calls
+
+module _ {V : Type 0} (K : Kind V) (d : Design) (begin : ℕ → Start (Run V)) (carry : Run V → Call V → Outcome V) where
+  -- Whatever bits are put for the values handed in, of those that these admit in the situation: after every call every value
+  -- given back admits the flat run's bit there, both refuse by the same number and stand at the same cycle.
+  abbrev pub Follows : Situation → Run V → Flat → Type 0
+  Follows s run flat =
+      Alike (Admits-there K s) d run flat × ((calls : List (Call V)) (flat-calls : List (Call Bool)) → All2 (Fed (Admits-there K s)) calls flat-calls → (os : List Flat-outcome) → Flat-run d flat flat-calls os → All2 (Matches (Admits-there K s) d) (trace carry run calls) os)
+
+  -- a. so it is from a start on, where the flat run starts from these bits
+  abbrev pub Never-denies : Store → Type 0
+  Never-denies store = (s : Situation) (n : ℕ) (f : Start Flat) → Flat-start d store n f → Both-start (Follows s) (begin n) f
+
+  -- b. where each value handed in is settled, each value given back is
+  abbrev pub Stays-settled : Type 0
+  Stays-settled = (s : Situation) (n : ℕ) (run : Run V) → begin n ≡ started run → (calls : List (Call V)) → All (Settled-in K s) calls → All (Settled-out K s) (trace carry run calls)
+
+  -- c. an accepted step counts each flat gate once, and once more for every cell-holding module below the top on the way to it
+  abbrev pub Counts-flat-gates : Type 0
+  Counts-flat-gates = (n : ℕ) (run : Run V) → begin n ≡ started run → (calls : List (Call V)) → All (λ o. Counts-right d (o .answer)) (trace carry run calls)
+
+  abbrev pub Keeps-sizes : Type 0
+  Keeps-sizes = (n : ℕ) (run : Run V) → begin n ≡ started run → (calls : List (Call V)) → All (λ o. Sized d (o .run)) (trace carry run calls)
+
 -- there is one, and no other
 abbrev pub One : {X : Type 0} → (X → Type 0) → Type 0
 One {X} P = (x : X) × P x × ((y : X) → P y → y ≡ x)
-
--- The law
 
 -- one set of bits agrees with any inputs and stored bits, and there is one flat run for any start and calls
 pub record One-flat-run (d : Design) : Type 0 where
@@ -102,19 +114,21 @@ pub record One-flat-run (d : Design) : Type 0 where
   pub start : (store : Store) (n : ℕ) → One (Flat-start d store n)
   pub run : (flat : Flat) (calls : List (Call Bool)) → One (Flat-run d flat calls)
 
+-- The law
+
 module _ {V : Type 0} (K : Kind V) (d : Design) where
   pub record Law-for-powered-runs : Type 0 where
-    pub never-denies : (s : Situation) (n : ℕ) (f : Start Flat) → Flat-power d n f → Both-start (Never-denies K s d) (power K d n) f
-    pub stays-settled : (s : Situation) (n : ℕ) (run : Run V) → power K d n ≡ started run → (calls : List (Call V)) → All (Settled-in K s) calls → All (Settled-out K s) (trace K d run calls)
-    pub counts : (n : ℕ) (run : Run V) → power K d n ≡ started run → (calls : List (Call V)) → All (λ o. Counts-right d (o .answer)) (trace K d run calls)
-    pub sizes : (n : ℕ) (run : Run V) → power K d n ≡ started run → (calls : List (Call V)) → All (λ o. Sized d (o .run)) (trace K d run calls)
+    pub never-denies : Never-denies K d (power K d) (call K d) (λ p. false)
+    pub stays-settled : Stays-settled K d (power K d) (call K d)
+    pub counts : Counts-flat-gates K d (power K d) (call K d)
+    pub sizes : Keeps-sizes K d (power K d) (call K d)
     pub one : One-flat-run d
 
-  -- started cold, with u in all cells: for each of them either bit
+  -- started cold, with u in all cells: the flat run starts from any bits
   pub record Law-for-cold-runs (u : V) : Type 0 where
-    pub never-denies : (s : Situation) (store : Store) (n : ℕ) (f : Start Flat) → Flat-start d store n f → Both-start (Never-denies K s d) (start-with d u n) f
-    pub counts : (n : ℕ) (run : Run V) → start-with d u n ≡ started run → (calls : List (Call V)) → All (λ o. Counts-right d (o .answer)) (trace K d run calls)
-    pub sizes : (n : ℕ) (run : Run V) → start-with d u n ≡ started run → (calls : List (Call V)) → All (λ o. Sized d (o .run)) (trace K d run calls)
+    pub never-denies : (store : Store) → Never-denies K d (start-with d u) (call K d) store
+    pub counts : Counts-flat-gates K d (start-with d u) (call K d)
+    pub sizes : Keeps-sizes K d (start-with d u) (call K d)
 
   pub record Law-for-runs (u : V) : Type 0 where
     pub powered : Law-for-powered-runs

@@ -100,7 +100,7 @@ module _ {V : Type 0} (K : Kind V) (d : Design) where
   abbrev pub call : Run V → Call V → Outcome V
   call s c = carried-out s c (refusal d (s .cycle) c)
 
-  -- what each call of a sequence leaves and answers
-  abbrev pub trace : Run V → List (Call V) → List (Outcome V)
-  trace s [] = []
-  trace s (c ∷ cs) = call s c ∷ trace (call s c .run) cs
+-- what each call of a sequence leaves and answers, by a way of carrying out calls
+abbrev pub trace : {V : Type 0} → (Run V → Call V → Outcome V) → Run V → List (Call V) → List (Outcome V)
+trace carry s [] = []
+trace carry s (c ∷ cs) = carry s c ∷ trace carry (carry s c .run) cs
