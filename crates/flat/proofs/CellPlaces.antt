@@ -2,7 +2,7 @@
 use mathlib.Core.Path.{_≡_, refl, sym, ap, ap₂, subst, _∙_}
 use mathlib.Core.Bool.{Bool, true, false, cond}
 use mathlib.Core.List.{List, [], _∷_, _++_, map, map-append}
-use Prim.Native.Nat.{ℕ, zero, suc, _+_, _<_}
+use Prim.Native.Nat.{ℕ, _+_, _<_}
 use native.Mathlib.Omega.{arith}
 use lib.Dec.{eqb, ltb}
 use lib.ListN.{length, take, drop, length-append, length-map}
@@ -17,7 +17,7 @@ use Rattle.rules.specs.Boards.{Module, Design, absent, node, part, occurrence-n
 use Rattle.rules.specs.Wires.{times}
 use Rattle.rules.specs.Sound.{All, Refers, Sound}
 use Rattle.flat.specs.Passes.{own}
-use Rattle.flat.specs.Flat.{Place, Store, joined, cells-inside, cell-places, cell-bits}
+use Rattle.flat.specs.Flat.{Store, joined, cells-inside, cell-places, cell-bits}
 use Rattle.flat.proofs.Lists.{refer-at}
 use Rattle.flat.proofs.Sums.{cells-by-states}
 

@@ -1,8 +1,8 @@
 -- The stack is no deeper than the modules, and modules by their numbers.
-use mathlib.Core.Path.{_≡_, refl, sym, ap, ap₂, subst, _∙_}
+use mathlib.Core.Path.{_≡_, refl, sym, ap, subst, _∙_}
 use mathlib.Core.Bool.{Bool, true, false, cond}
-use mathlib.Core.List.{List, [], _∷_, _++_, map}
-use Prim.Native.Nat.{ℕ, zero, suc, _+_, max, _≤_, _<_}
+use mathlib.Core.List.{List, [], _∷_, map}
+use Prim.Native.Nat.{ℕ, zero, suc, _+_, _≤_, _<_}
 use native.Mathlib.Nat.{not-suc-le-zero, le-of-suc-le-suc}
 use native.Mathlib.Omega.{arith}
 use lib.Dec.{eqb, T, eqb→eq, eqb-refl}
@@ -12,8 +12,7 @@ use Rattle.std.specs.declared.option.Option.the-variants.{Some, None}
 use Rattle.gates.specs.declared.Part.{Part}
 use Rattle.gates.specs.declared.Part.the-variants.{Gate as gate, Cell as cell, Module as module-no}
 use Rattle.signal.specs.Kinds.{Kind}
-use Rattle.signal.specs.GateValues.{input, gate-value}
-use Rattle.rules.specs.Boards.{Occurrence, no-occurrence, Module, no-module, module-number, occurrence-no, Design, absent, node, part, present, most-of, of-module, depth, cells-at, design-from, design-number}
+use Rattle.rules.specs.Boards.{Occurrence, no-occurrence, Module, no-module, occurrence-no, Design, absent, node, part, present, of-module, depth, cells-at, design-from}
 use Rattle.rules.specs.Sound.{Refers, Sound}
 use Rattle.flat.specs.Passes.{own}
 use Rattle.flat.specs.Machine.{Doing, for-outputs, for-both, storing, Level, Machine, busy, halted, entered, part-ticks, entry-ticks, returned, stored-up, first-tick, second-tick, level-tick, tick, Sound-machine, Deep-levels, Deep, Stays-deep, By-number}

@@ -15,11 +15,11 @@ use Rattle.gates.specs.Gates.{gate-bit}
 use Rattle.signal.specs.Kinds.{Kind}
 use Rattle.signal.specs.Bits.{bits}
 use Rattle.signal.proofs.GatesLaws.{gates-on-bits}
-use Rattle.rules.specs.Boards.{Occurrence, no-occurrence, Module, Design, absent, node, part, occurrence-no, out-wires, inputs-due, outputs-due}
+use Rattle.rules.specs.Boards.{Occurrence, no-occurrence, Design, absent, node, part, occurrence-no, out-wires, inputs-due, outputs-due}
 use Rattle.rules.specs.Wires.{Wires, upd, put, through-of, through, mark, drive}
 use Rattle.rules.specs.Sound.{All, Fresh, Refers, Fits, Fit-all, Sound}
 use Rattle.flat.specs.Passes.{Counted, own, start, given, pass, first, outputs}
-use Rattle.flat.specs.Flat.{Place, Bits, Store, inside, Agrees-at, Agrees, One-agrees, cell-places, cell-bits}
+use Rattle.flat.specs.Flat.{Place, Bits, Store, inside, Agrees-at, Agrees, cell-places, cell-bits}
 use Rattle.flat.specs.Laws.{Bits-agree}
 use Rattle.flat.proofs.Lists.{T-true, map-on}
 use Rattle.flat.proofs.Through.{by-outputs, same-outputs}

@@ -1,10 +1,9 @@
 -- The cells in place: a tick writes at most one.
 use mathlib.Core.Path.{_≡_, refl, sym, ap, ap₂, subst, _∙_}
-use mathlib.Core.Bool.{Bool, true, false, cond}
 use mathlib.Core.List.{List, [], _∷_, _++_, map, append-nil, append-assoc}
-use Prim.Native.Nat.{ℕ, zero, suc, _+_, _-_, min, _≤_, _<_}
+use Prim.Native.Nat.{ℕ, suc, _+_, _<_}
 use native.Mathlib.Omega.{arith}
-use lib.ListN.{length, getD, set, take, drop, take-append-drop, length-take, length-drop, length-append, length-set}
+use lib.ListN.{length, set, take, drop, take-append-drop, length-drop, length-append}
 use Rattle.std.proofs.shelf.Lists.{set-append-left, set-at, nil-from-length, length-take-le}
 use Rattle.std.specs.declared.option.Option.{Option}
 use Rattle.std.specs.declared.option.Option.the-variants.{Some, None}
@@ -12,10 +11,10 @@ use Rattle.gates.specs.declared.Part.{Part}
 use Rattle.gates.specs.declared.Part.the-variants.{Gate as gate, Cell as cell, Module as module-no}
 use Rattle.signal.specs.Kinds.{Kind}
 use Rattle.signal.specs.GateValues.{input, gate-value}
-use Rattle.rules.specs.Boards.{Occurrence, Module, occurrence-no, Design, absent, node, part, sum-of, cells-of, cells, cells-at}
+use Rattle.rules.specs.Boards.{Occurrence, occurrence-no, Design, absent, node, part, cells-of, cells, cells-at}
 use Rattle.rules.specs.Sound.{Refers, Sound}
 use Rattle.flat.specs.Passes.{own}
-use Rattle.flat.specs.Machine.{Doing, for-outputs, for-both, storing, Level, Machine, busy, halted, passed, kept, entry, saved, entered, part-ticks, entry-ticks, occurrence-of, returned, stored-up, first-tick, second-tick, level-tick, tick, Sound-machine}
+use Rattle.flat.specs.Machine.{Doing, for-outputs, for-both, storing, Level, busy, passed, kept, entry, saved, entered, part-ticks, entry-ticks, occurrence-of, returned, stored-up, first-tick, second-tick, level-tick}
 use Rattle.flat.specs.InPlace.{region, around, row, in-place, stored-length, base, write-part, write-entry, write-as, sizes, Own-fits, Looks, Stores, Under, In-order, Cells-in-place}
 use Rattle.flat.proofs.Lists.{drop-next, drop-head, refer-left, refer-state}
 use Rattle.flat.proofs.Sums.{cells-by-states}

@@ -13,8 +13,8 @@ use Rattle.signal.specs.Kinds.{Kind}
 use Rattle.signal.specs.GateValues.{input}
 use Rattle.rules.specs.Boards.{Occurrence, Module, Design, absent, node, part, occurrence-no, out-wires, inputs-due, cells-at, ahead}
 use Rattle.rules.specs.Wires.{Wires, upd, put, drive}
-use Rattle.rules.specs.Sound.{All, Refers, Fits, Fit-all, Sound}
-use Rattle.flat.specs.Passes.{Counted, and-then, own, start, given, pass, on-outputs, first, stored, in-order, second, outputs, next}
+use Rattle.rules.specs.Sound.{All, Refers, Fit-all, Sound}
+use Rattle.flat.specs.Passes.{Counted, and-then, own, start, given, pass, on-outputs, first, stored, in-order, second}
 use Rattle.flat.specs.Laws.{All2, Gates-keep, Keep, Passes-keep}
 use Rattle.flat.proofs.Lists.{refer-at}
 

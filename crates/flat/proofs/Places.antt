@@ -1,6 +1,6 @@
 -- No two cells have one place, so that a bit written at a cell's place is written to that cell alone.
 use mathlib.Core.Path.{_≡_, refl, sym, ap, ap₂, _∙_}
-use mathlib.Core.Bool.{Bool, true, false, cond, _&&_}
+use mathlib.Core.Bool.{Bool, true, false, cond}
 use mathlib.Core.List.{List, [], _∷_, _++_, map}
 use Prim.Native.Nat.{ℕ, zero, suc, _<_}
 use native.Mathlib.Nat.{not-suc-le-zero, le-of-suc-le-suc}
@@ -12,7 +12,6 @@ use Rattle.std.proofs.shelf.Tests.{and-from, and-left, and-right, eqb-false, ne
 use Rattle.gates.specs.declared.Part.{Part}
 use Rattle.gates.specs.declared.Part.the-variants.{Gate as gate, Cell as cell, Module as module-no}
 use Rattle.rules.specs.Boards.{Design, absent, node, part, occurrence-no}
-use Rattle.rules.specs.Wires.{times}
 use Rattle.rules.specs.Sound.{All, Refers, Sound}
 use Rattle.flat.specs.Flat.{Place, Store, joined, cells-inside, cell-places, cell-bits}
 use Rattle.flat.specs.FlatRuns.{same-place, written, cell-place}

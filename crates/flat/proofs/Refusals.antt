@@ -1,9 +1,8 @@
 -- The simulated run's checks refuse a call by the number that refuses it on the flat side.
-use mathlib.Core.Path.{_≡_, refl, sym, ap, subst, _∙_}
-use mathlib.Core.Bool.{Bool, true, false, cond, not, _&&_}
+use mathlib.Core.Path.{_≡_, refl, sym, subst, _∙_}
+use mathlib.Core.Bool.{Bool, true, false, not, _&&_}
 use mathlib.Core.Logic.{_≢_, _⊎_, inl, inr}
-use mathlib.Core.List.{List}
-use Prim.Native.Nat.{ℕ, zero, suc, _+_, _*_, _≤_, _<_}
+use Prim.Native.Nat.{ℕ, suc, _+_, _*_, _≤_, _<_}
 use native.Mathlib.Omega.{arith}
 use lib.Dec.{eqb, ltb, leb}
 use lib.ListN.{length}
@@ -12,7 +11,7 @@ use Rattle.rules.specs.Boards.{Design, in-count, out-wires, cells}
 use Rattle.rules.specs.Sound.{Sound}
 use Rattle.flat.specs.Flat.{cell-places}
 use Rattle.flat.specs.Runs.{Call, unless, refusal}
-use Rattle.flat.specs.FlatRuns.{Wrong, Refuses, Accepts}
+use Rattle.flat.specs.FlatRuns.{Wrong, Refuses}
 use Rattle.flat.specs.RunLaws.{Fed, fed-step, fed-set, fed-clear, fed-read, fed-look}
 use Rattle.flat.proofs.Keep.{length-rel}
 use Rattle.flat.proofs.CellPlaces.{places-length}

@@ -1,11 +1,10 @@
 -- The law for runs.
 use mathlib.Core.Path.{_≡_, refl, sym, ap, ap₂, subst, _∙_, fun-ext}
 use mathlib.Core.Bool.{Bool, true, false, cond}
-use mathlib.Core.Logic.{_≢_, _⊎_, inl, inr}
+use mathlib.Core.Logic.{_⊎_, inl, inr}
 use mathlib.Core.List.{List, [], _∷_, _++_, map}
 use Prim.Native.Nat.{ℕ, zero, suc, _+_, _*_, _≤_, _<_}
 use native.Mathlib.Nat.{add-mul, one-mul, zero-mul}
-use native.Mathlib.Omega.{arith}
 use lib.Dec.{eqb}
 use lib.ListN.{length, getD, set, replicate, length-map, length-append, length-set, length-replicate}
 use Rattle.std.specs.declared.option.Option.{Option}
@@ -19,15 +18,15 @@ use Rattle.signal.specs.Kinds.{Kind, Situation, Admits, Settled, Admits-both, L
 use Rattle.signal.specs.Bits.{bits}
 use Rattle.signal.specs.GateValues.{gate-value, All-admit, All-settled}
 use Rattle.signal.proofs.GatesLaws.{gates-on-bits, input-settled, gate-admits, gate-settled}
-use Rattle.rules.specs.Boards.{Occurrence, no-occurrence, Module, Design, absent, node, part, occurrence-no, in-count, out-wires, cells}
+use Rattle.rules.specs.Boards.{Occurrence, no-occurrence, Design, absent, node, part, occurrence-no, out-wires, cells}
 use Rattle.rules.specs.Sound.{All, Refers, Sound}
-use Rattle.flat.specs.Passes.{first, outputs, next, step-of}
-use Rattle.flat.specs.Flat.{Place, Store, Bits, inside, Agrees-at, Agrees, flat-outputs, input-inside, input-bit, cell-places, cell-bits, flat-count}
+use Rattle.flat.specs.Passes.{first, outputs, next}
+use Rattle.flat.specs.Flat.{Place, Store, Bits, inside, Agrees-at, Agrees, flat-outputs, input-inside, input-bit, cell-places, cell-bits}
 use Rattle.flat.specs.Laws.{All2, Gates-keep}
-use Rattle.flat.specs.Runs.{Room, Call, step, set-cell, clear, read, look, Answer, refused, counted, done, value-is, Start, not-started, started, Run, Outcome, refusal, start-with, power, performed, carried-out, call, trace}
-use Rattle.flat.specs.FlatRuns.{Flat, Flat-outcome, Wrong, Refuses, Accepts, written, cell-place, Flat-performed, Flat-refused, Flat-call, Flat-run, Flat-start}
-use Rattle.flat.specs.RunLaws.{Fed, fed-step, fed-set, fed-clear, fed-read, fed-look, Answered, both-refused, both-stepped, both-done, both-value, Alike, Matches, Both-start, Admits-there, Follows, Settled-in, Settled-answer, Settled-out, Counts-right, Sized, One, One-flat-run, Law-for-powered-runs, Law-for-cold-runs, Law-for-runs}
-use Rattle.flat.proofs.Lists.{map-on, refer-at}
+use Rattle.flat.specs.Runs.{Call, step, set-cell, clear, read, look, refused, done, Start, not-started, started, Run, Outcome, refusal, start-with, power, performed, carried-out, call, trace}
+use Rattle.flat.specs.FlatRuns.{Flat, Flat-outcome, Wrong, Accepts, Flat-performed, Flat-call, Flat-run, Flat-start}
+use Rattle.flat.specs.RunLaws.{Fed, fed-step, fed-set, fed-clear, fed-read, fed-look, both-refused, both-stepped, both-done, both-value, Alike, Matches, Both-start, Admits-there, Follows, Settled-in, Settled-out, Counts-right, Sized, One, One-flat-run, Law-for-powered-runs, Law-for-cold-runs, Law-for-runs}
+use Rattle.flat.proofs.Lists.{refer-at}
 use Rattle.flat.proofs.Keep.{keep, getD-rel, append-rel, length-rel}
 use Rattle.flat.proofs.Walk.{next-length}
 use Rattle.flat.proofs.CellPlaces.{places-length}

@@ -12,11 +12,10 @@ use Rattle.gates.specs.declared.Part.{Part}
 use Rattle.gates.specs.declared.Part.the-variants.{Gate as gate, Cell as cell, Module as module-no}
 use Rattle.gates.specs.Gates.{gate-bit}
 use Rattle.signal.specs.Bits.{bits}
-use Rattle.signal.specs.GateValues.{gate-value}
 use Rattle.signal.proofs.GatesLaws.{gates-on-bits}
-use Rattle.rules.specs.Boards.{Occurrence, no-occurrence, Module, Design, absent, node, part, occurrence-no, out-wires, inputs-due}
+use Rattle.rules.specs.Boards.{Occurrence, no-occurrence, Module, Design, absent, node, part, occurrence-no, inputs-due}
 use Rattle.rules.specs.Wires.{Wires, upd, put, picked, through-of, through, mark, drive, drive-all}
-use Rattle.rules.specs.Sound.{All, Refers, Fits, Fit-all, Sound}
+use Rattle.rules.specs.Sound.{All, Refers, Fit-all, Sound}
 use Rattle.flat.specs.Passes.{Counted, and-then, own, start, given, pass, first, stored, in-order, second, outputs, next}
 use Rattle.flat.specs.Flat.{Place, Bits, Store, inside, Agrees-at, Agrees, Wire-inside, Has-wire, flat-outputs, input-inside, input-bit, joined, cells-inside, cell-places, cell-bits}
 use Rattle.flat.specs.Laws.{Flat-step}

@@ -1,15 +1,14 @@
 -- Sums over occurrences and over a state list.
-use mathlib.Core.Path.{_≡_, refl, sym, ap, ap₂, subst, _∙_}
+use mathlib.Core.Path.{_≡_, refl, sym, ap, ap₂, _∙_}
 use mathlib.Core.Bool.{Bool, true, false, cond}
-use mathlib.Core.List.{List, [], _∷_, _++_, map}
-use Prim.Native.Nat.{ℕ, zero, suc, _+_, _*_, max, _≤_, _<_}
+use mathlib.Core.List.{List, [], _∷_}
+use Prim.Native.Nat.{ℕ, zero, suc, _+_, _*_, _≤_, _<_}
 use native.Mathlib.Nat.{not-suc-le-zero, le-of-suc-le-suc}
 use native.Mathlib.Omega.{arith}
-use lib.Dec.{eqb, ltb, eqb-refl, T, lt→ltb, eqb·zero-suc, eqb·suc-zero, eqb·suc-suc}
+use lib.Dec.{eqb, ltb, eqb-refl, lt→ltb, eqb·zero-suc, eqb·suc-zero, eqb·suc-suc}
 use lib.ListN.{length, getD}
 use Rattle.rules.specs.Boards.{no-occurrence, Module, Design, node, part, sum-of, most-of, cells-of, cells, cells-at}
 use Rattle.rules.specs.Wires.{times}
-use Rattle.rules.specs.Judging.{times-due}
 use Rattle.rules.specs.Sound.{All, Sound}
 use Rattle.flat.proofs.Lists.{T-true}
 

@@ -11,7 +11,7 @@ use Rattle.gates.specs.declared.Part.{Part}
 use Rattle.gates.specs.declared.Part.the-variants.{Gate as gate, Cell as cell, Module as module-no}
 use Rattle.signal.specs.Kinds.{Kind}
 use Rattle.signal.specs.GateValues.{input, gate-value}
-use Rattle.rules.specs.Boards.{Occurrence, Module, Design, absent, node, part, out-wires, outputs-due}
+use Rattle.rules.specs.Boards.{Occurrence, Design, absent, node, part, out-wires, outputs-due}
 use Rattle.rules.specs.Wires.{Wires, upd, put, run, picked, through-of, reached, reach, through}
 use Rattle.flat.specs.Passes.{Counted, own, start, given, pass, on-outputs, first, outputs}
 use Rattle.flat.proofs.Lists.{T-true, heads, tails}

@@ -1,19 +1,19 @@
 -- Each tick of the machine is one less.
-use mathlib.Core.Path.{_≡_, refl, sym, ap, ap₂, subst, _∙_}
-use mathlib.Core.List.{List, [], _∷_, _++_, map}
-use Prim.Native.Nat.{ℕ, zero, suc, _+_, _<_}
+use mathlib.Core.Path.{_≡_, refl, ap}
+use mathlib.Core.List.{List, [], _∷_, map}
+use Prim.Native.Nat.{ℕ, suc, _+_}
 use native.Mathlib.Omega.{arith}
-use lib.ListN.{length, getD, take, drop}
+use lib.ListN.{take, drop}
 use Rattle.std.specs.declared.option.Option.{Option}
 use Rattle.std.specs.declared.option.Option.the-variants.{Some, None}
 use Rattle.gates.specs.declared.Part.{Part}
 use Rattle.gates.specs.declared.Part.the-variants.{Gate as gate, Cell as cell, Module as module-no}
 use Rattle.signal.specs.Kinds.{Kind}
-use Rattle.signal.specs.GateValues.{input, gate-value}
+use Rattle.signal.specs.GateValues.{input}
 use Rattle.rules.specs.Boards.{Occurrence, Module, occurrence-no, Design, absent, node, part, cells-at}
 use Rattle.rules.specs.Sound.{Refers, Sound}
 use Rattle.flat.specs.Passes.{own}
-use Rattle.flat.specs.Machine.{Doing, for-outputs, for-both, storing, Level, Machine, busy, halted, passed, kept, saved, entered, part-ticks, entry-ticks, occurrence-of, returned, stored-up, first-tick, second-tick, level-tick, tick, Sound-machine}
+use Rattle.flat.specs.Machine.{Doing, for-outputs, for-both, storing, Level, busy, kept, saved, entered, part-ticks, entry-ticks, returned, stored-up, first-tick, second-tick, level-tick}
 use Rattle.flat.specs.Machine.{ticks-of, first-ticks, second-ticks, first-left, second-left, level-left, levels-left, ticks-left, Ticks-fall}
 use Rattle.flat.proofs.Lists.{drop-next, refer-left, refer-state}
 

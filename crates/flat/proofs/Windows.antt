@@ -1,11 +1,11 @@
 -- A module's wires as a part of the working values.
-use mathlib.Core.Path.{_≡_, refl, sym, ap, ap₂, subst, _∙_}
+use mathlib.Core.Path.{_≡_, refl, sym, subst, _∙_}
 use mathlib.Core.Bool.{Bool, true, false, cond}
 use mathlib.Core.Logic.{_≢_}
-use mathlib.Core.List.{List, [], _∷_, map}
+use mathlib.Core.List.{List, [], _∷_}
 use Prim.Native.Nat.{ℕ, _+_, _≤_, _<_}
 use native.Mathlib.Omega.{arith}
-use lib.Dec.{eqb, ltb, T, eqb→eq, eqb-refl, ltb→lt, lt→ltb, leb→le}
+use lib.Dec.{eqb, ltb, T, eqb→eq, eqb-refl, ltb→lt}
 use lib.ListN.{length, getD, set, length-set}
 use Rattle.std.proofs.shelf.Lists.{getD-set-same, getD-set-other}
 use Rattle.signal.specs.Kinds.{Kind}
@@ -13,7 +13,7 @@ use Rattle.signal.specs.GateValues.{input}
 use Rattle.rules.specs.Wires.{Wires, upd, put}
 use Rattle.rules.specs.Sound.{All}
 use Rattle.flat.specs.Passes.{start}
-use Rattle.flat.specs.Windows.{Shows, writes, Windows, Windows-show}
+use Rattle.flat.specs.Windows.{Shows, writes, Windows-show}
 use Rattle.flat.proofs.Lists.{T-true, map-on}
 
 module _ {V : Type 0} (K : Kind V) where

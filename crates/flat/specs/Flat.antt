@@ -2,7 +2,7 @@
 use mathlib.Core.Path.{_≡_}
 use mathlib.Core.Bool.{Bool, false, cond}
 use mathlib.Core.List.{List, [], _∷_, _++_, map}
-use Prim.Native.Nat.{ℕ, suc, _+_, _*_, _≤_, _<_}
+use Prim.Native.Nat.{ℕ, suc, _+_, _<_}
 use lib.Dec.{ltb}
 use lib.ListN.{length, getD}
 use Rattle.std.specs.declared.option.Option.{Option}
@@ -10,7 +10,7 @@ use Rattle.std.specs.declared.option.Option.the-variants.{Some, None}
 use Rattle.gates.specs.declared.Part.{Part}
 use Rattle.gates.specs.declared.Part.the-variants.{Gate as gate, Cell as cell, Module as module-no}
 use Rattle.gates.specs.Gates.{gate-bit}
-use Rattle.rules.specs.Boards.{Occurrence, Module, Design, absent, node, part, occurrence-no, out-wires, sum-of}
+use Rattle.rules.specs.Boards.{Occurrence, Design, absent, node, part, occurrence-no, out-wires, sum-of}
 
 -- A place is a way down from the top to an occurrence: the numbers of the occurrences on it, the outermost first. The
 -- empty way is the top itself.

@@ -8,7 +8,7 @@ use lib.Dec.{eqb}
 use lib.ListN.{length, getD}
 use Rattle.rules.specs.Boards.{Design, in-count, out-wires}
 use Rattle.flat.specs.Flat.{Place, Store, Bits, Agrees, flat-outputs, input-bit, cell-places}
-use Rattle.flat.specs.Runs.{Room, Call, step, set-cell, clear, read, look, Answer, refused, done, value-is, Start, not-started, started}
+use Rattle.flat.specs.Runs.{Call, step, set-cell, clear, read, look, Answer, refused, done, value-is, Start, not-started, started}
 
 -- a stored bit for each cell place, the tape and the cycle
 pub record Flat : Type 0 where

@@ -9,7 +9,7 @@ use Rattle.gates.specs.declared.Part.{Part}
 use Rattle.gates.specs.declared.Part.the-variants.{Gate as gate, Cell as cell, Module as module-no}
 use Rattle.signal.specs.Kinds.{Kind}
 use Rattle.signal.specs.GateValues.{input}
-use Rattle.rules.specs.Boards.{Occurrence, Module, part, occurrence-no, sum-of, cells-at}
+use Rattle.rules.specs.Boards.{Occurrence, part, occurrence-no, sum-of, cells-at}
 use Rattle.flat.specs.Machine.{Doing, for-outputs, for-both, storing, Level, Machine, busy, halted, entry, tick, Sound-machine}
 
 module _ {V : Type 0} (K : Kind V) where

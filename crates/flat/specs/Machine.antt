@@ -1,6 +1,6 @@
 -- The two passes as a walk over a stack of levels, one for each module on the way down.
 use mathlib.Core.Path.{_≡_}
-use mathlib.Core.Bool.{Bool, true, false}
+use mathlib.Core.Bool.{true}
 use mathlib.Core.List.{List, [], _∷_, _++_, map}
 use Prim.Native.Nat.{ℕ, suc, _+_, _≤_, _<_}
 use lib.ListN.{length, getD, take, drop}
@@ -10,7 +10,7 @@ use Rattle.gates.specs.declared.Part.{Part}
 use Rattle.gates.specs.declared.Part.the-variants.{Gate as gate, Cell as cell, Module as module-no}
 use Rattle.signal.specs.Kinds.{Kind}
 use Rattle.signal.specs.GateValues.{input, gate-value}
-use Rattle.rules.specs.Boards.{Occurrence, Module, Design, absent, node, part, occurrence-no, module-number, design-number, design-from, present, sum-of, cells-at, depth}
+use Rattle.rules.specs.Boards.{Occurrence, Module, Design, absent, node, part, occurrence-no, design-number, design-from, present, sum-of, cells-at, depth}
 use Rattle.rules.specs.Wires.{Wires, put}
 use Rattle.rules.specs.Sound.{Sound}
 use Rattle.flat.specs.Passes.{Counted, counting, and-then, own, start, given, pass, on-outputs, first, stored, second, Stepped, step-of}

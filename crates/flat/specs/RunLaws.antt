@@ -1,7 +1,7 @@
 -- The law for runs: a simulated run never denies what the flat run does.
 use mathlib.Core.Path.{_≡_}
 use mathlib.Core.Bool.{Bool, false}
-use mathlib.Core.List.{List, [], _∷_}
+use mathlib.Core.List.{List}
 use Prim.Native.Nat.{ℕ, _*_}
 use lib.ListN.{length}
 use Rattle.signal.specs.Kinds.{Kind, Situation, Admits, Settled}
