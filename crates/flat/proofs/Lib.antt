@@ -15,3 +15,4 @@ pub mod Count
 pub mod Places
 pub mod Refusals
 pub mod Runs
+pub mod Refuted

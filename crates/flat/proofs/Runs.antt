@@ -360,6 +360,7 @@ module _ {V : Type 0} (K : Kind V) (law : Lawful K) (d : Design) (sound : Sound 
 
   pub powered-law : Law-for-powered-runs K d
   powered-law = record {
+    as-defined = λ n run e calls. refl;
     never-denies = λ s n f h. start-rel d (K .low) n sound (Follows K d (power K d) (call K d) s) (λ p. false) (fresh-follows s (K .low) n (λ p. false) (λ p. law .low-only s .0)) f h;
     stays-settled = λ s n run e calls h.
         subst (λ (t : Run V). All (Settled-out K s) (trace (call K d) t calls)) (sym (start-run d (K .low) n run e)) (trace-settled K law s d sound (fresh-run d (K .low) n) (settled-replicate K law s d sound (cells d)) tt calls h);
@@ -370,6 +371,7 @@ module _ {V : Type 0} (K : Kind V) (law : Lawful K) (d : Design) (sound : Sound 
 
   pub cold-law : (u : V) → Admits-both K u → Law-for-cold-runs K d u
   cold-law u both = record {
+    as-defined = λ n run e calls. refl;
     never-denies = λ store s n f h. start-rel d u n sound (Follows K d (start-with d u) (call K d) s) store (fresh-follows s u n store (λ p. both s (store p))) f h;
     counts = λ n run e calls. trace-counts K d sound run calls;
     sizes = λ n run e calls. trace-sized K d sound run (subst (Sized d) (sym (start-run d u n run e)) (fresh-sized K d u n)) calls;

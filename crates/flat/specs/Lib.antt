@@ -7,3 +7,4 @@ pub mod Laws
 pub mod Runs
 pub mod FlatRuns
 pub mod RunLaws
+pub mod Refuted

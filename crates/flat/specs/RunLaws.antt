@@ -83,13 +83,17 @@ pub record Sized {V : Type 0} (d : Design) (s : Run V) : Type 0 where
 -- The parts of the law, for a way of starting runs and a way of carrying out calls
 
 module _ {V : Type 0} (K : Kind V) (d : Design) (begin : ℕ → Start (Run V)) (carry : Run V → Call V → Outcome V) where
+  -- a. every value given back is the one that the definitions give
+  abbrev pub As-defined : Type 0
+  As-defined = (n : ℕ) (run : Run V) → begin n ≡ started run → (calls : List (Call V)) → trace carry run calls ≡ trace (call K d) run calls
+
   -- Whatever bits are put for the values handed in, of those that these admit in the situation: after every call every value
   -- given back admits the flat run's bit there, both refuse by the same number and stand at the same cycle.
   abbrev pub Follows : Situation → Run V → Flat → Type 0
   Follows s run flat =
       Alike (Admits-there K s) d run flat × ((calls : List (Call V)) (flat-calls : List (Call Bool)) → All2 (Fed (Admits-there K s)) calls flat-calls → (os : List Flat-outcome) → Flat-run d flat flat-calls os → All2 (Matches (Admits-there K s) d) (trace carry run calls) os)
 
-  -- a. so it is from a start on, where the flat run starts from these bits
+  -- so it is from a start on, where the flat run starts from these bits
   abbrev pub Never-denies : Store → Type 0
   Never-denies store = (s : Situation) (n : ℕ) (f : Start Flat) → Flat-start d store n f → Both-start (Follows s) (begin n) f
 
@@ -118,6 +122,7 @@ pub record One-flat-run (d : Design) : Type 0 where
 
 module _ {V : Type 0} (K : Kind V) (d : Design) where
   pub record Law-for-powered-runs : Type 0 where
+    pub as-defined : As-defined K d (power K d) (call K d)
     pub never-denies : Never-denies K d (power K d) (call K d) (λ p. false)
     pub stays-settled : Stays-settled K d (power K d) (call K d)
     pub counts : Counts-flat-gates K d (power K d) (call K d)
@@ -126,6 +131,7 @@ module _ {V : Type 0} (K : Kind V) (d : Design) where
 
   -- started cold, with u in all cells: the flat run starts from any bits
   pub record Law-for-cold-runs (u : V) : Type 0 where
+    pub as-defined : As-defined K d (start-with d u) (call K d)
     pub never-denies : (store : Store) → Never-denies K d (start-with d u) (call K d) store
     pub counts : Counts-flat-gates K d (start-with d u) (call K d)
     pub sizes : Keeps-sizes K d (start-with d u) (call K d)

@@ -4,6 +4,7 @@ ghost use Rattle.rules.specs.Sound.{Sound};
 ghost use Rattle.flat.specs.InPlace.{Cells-in-place};
 ghost use Rattle.flat.specs.Laws.{Bits-agree, Cells-stay, Counts, Flat-step, Passes-keep};
 ghost use Rattle.flat.specs.Machine.{By-number, Machine-keeps, Stays-deep, Ticks-fall};
+ghost use Rattle.flat.specs.Refuted.{Refuted};
 ghost use Rattle.flat.specs.RunLaws.{Law-for-powered-runs, Law-for-runs};
 ghost use Rattle.flat.specs.Windows.{Windows-show};
 use signal::Signal;
@@ -17,6 +18,11 @@ pub fn law_for_powered_runs<K: Signal>()
 // The law for runs that are powered or started cold.
 pub fn law_for_runs<K: WithUnknown>()
     ensures { λ _. ⌜ ((d : Design) → Sound d → Law-for-runs (K·Signal .kind) d (K·WithUnknown .blank)) ⌝ }
+{}
+
+// Wrong ways of running a board break the law, each one a part of it.
+pub fn wrong_ways_are_refuted()
+    ensures { λ _. ⌜ Refuted ⌝ }
 {}
 
 // Both passes keep any relation that the gates keep.
