@@ -1,4 +1,4 @@
--- Flat runs, as a relation. Nothing here is taken from the passes or the simulated runs but the calls and their answers.
+-- Flat runs, as a relation. They are fed the calls of simulated runs, and share nothing else with them.
 use mathlib.Core.Path.{_≡_}
 use mathlib.Core.Bool.{Bool, true, false, cond, _&&_}
 use mathlib.Core.Logic.{_≢_, _⊎_}
@@ -8,7 +8,7 @@ use lib.Dec.{eqb}
 use lib.ListN.{length, getD}
 use Rattle.rules.specs.Boards.{Design, in-count, out-wires}
 use Rattle.flat.specs.Flat.{Place, Store, Bits, Agrees, flat-outputs, input-bit, cell-places}
-use Rattle.flat.specs.Runs.{Call, step, set-cell, clear, read, look, Answer, refused, done, value-is, Start, not-started, started}
+use Rattle.flat.specs.Runs.{Call, step, set-cell, clear, read, look, Start, not-started, started}
 
 -- a stored bit for each cell place, the tape and the cycle
 pub record Flat : Type 0 where
@@ -16,9 +16,16 @@ pub record Flat : Type 0 where
   pub tape : List Bool
   pub cycle : ℕ
 
+pub data Flat-answer : Type 0 where
+  -- by this number
+  flat-refused : ℕ → Flat-answer
+  flat-stepped flat-done : Flat-answer
+  bit-is : Bool → Flat-answer
+
+-- what a call leaves and what it answers
 pub record Flat-outcome : Type 0 where
   pub run : Flat
-  pub answer : Answer Bool
+  pub answer : Flat-answer
 
 -- Refusals
 
@@ -70,14 +77,14 @@ module _ (d : Design) where
   abbrev pub Flat-performed : Flat → Call Bool → Flat-outcome → Type 0
   -- a flat step: the output bits of the bits that agree go behind the tape, and each cell stores its input wire's bit
   Flat-performed s (step ins r) o =
-      (b : Bits) × Agrees d ins (s .store) b × (o ≡ record { run = record { store = input-bit d b; tape = s .tape ++ flat-outputs d b; cycle = s .cycle + 1 }; answer = done })
-  Flat-performed s (set-cell k b n) o = o ≡ record { run = record { store = written (cell-place k) b (s .store); tape = s .tape; cycle = s .cycle }; answer = done }
-  Flat-performed s (clear n) o = o ≡ record { run = record { store = λ p. false; tape = s .tape; cycle = s .cycle }; answer = done }
-  Flat-performed s (read k n) o = o ≡ record { run = s; answer = value-is (s .store (cell-place k)) }
-  Flat-performed s (look k j n t) o = o ≡ record { run = s; answer = value-is (getD (s .tape) (k * length (out-wires d) + j) false) }
+      (b : Bits) × Agrees d ins (s .store) b × (o ≡ record { run = record { store = input-bit d b; tape = s .tape ++ flat-outputs d b; cycle = s .cycle + 1 }; answer = flat-stepped })
+  Flat-performed s (set-cell k b n) o = o ≡ record { run = record { store = written (cell-place k) b (s .store); tape = s .tape; cycle = s .cycle }; answer = flat-done }
+  Flat-performed s (clear n) o = o ≡ record { run = record { store = λ p. false; tape = s .tape; cycle = s .cycle }; answer = flat-done }
+  Flat-performed s (read k n) o = o ≡ record { run = s; answer = bit-is (s .store (cell-place k)) }
+  Flat-performed s (look k j n t) o = o ≡ record { run = s; answer = bit-is (getD (s .tape) (k * length (out-wires d) + j) false) }
 
   abbrev pub Flat-refused : Flat → Call Bool → Flat-outcome → Type 0
-  Flat-refused s c o = (n : ℕ) × Refuses d (s .cycle) c n × (o ≡ record { run = s; answer = refused n })
+  Flat-refused s c o = (n : ℕ) × Refuses d (s .cycle) c n × (o ≡ record { run = s; answer = flat-refused n })
 
   abbrev pub Flat-call : Flat → Call Bool → Flat-outcome → Type 0
   Flat-call s c o = Flat-refused s c o ⊎ (Accepts d (s .cycle) c × Flat-performed s c o)

@@ -65,6 +65,7 @@ module _ {V : Type 0} (K : Kind V) where
   kept n ds for-both = for-both
   kept n ds (storing done rest) = storing (done ++ ds) (drop n rest)
 
+  -- the entry of the state list that a level stands at
   abbrev pub entry : Level V → ℕ
   entry f = getD (f .owner .states) (f .place) 0
 
@@ -76,6 +77,7 @@ module _ {V : Type 0} (K : Kind V) where
   entered absent ins cs doing f = f
   entered (node m below) ins cs doing f = record { owner = m; below = below; cs = cs; ws = start K (m .inputs) ins; place = 0; doing = doing }
 
+  -- the tick at an occurrence, and that at an entry of the state list
   abbrev pub part-ticks : Level V → List (Level V) → ℕ → Occurrence → Option Part → Machine V
   part-ticks f fs n o (Some (gate g)) = busy (passed f o (gate-value K g (map (f .ws) (o .ins)) ∷ [])) fs (n + 1)
   part-ticks f fs n o (Some cell) = busy (passed f o (input K (own (f .owner) (f .below) (f .cs) (f .place)) 0 ∷ [])) fs n
@@ -120,8 +122,9 @@ module _ {V : Type 0} (K : Kind V) where
   tick (busy f fs n) = level-tick f fs n (f .doing)
   tick (halted r) = halted r
 
-  -- What a machine will come to.
+  -- What a machine comes to
 
+  -- what the levels above make of a level's outputs, and of its outputs and next cells, with the gates evaluated so far
   pub record Onward : Type 0 where
     pub with-outputs : List V → ℕ → Stepped V
     pub with-cells : List V → List V → ℕ → Stepped V
@@ -130,6 +133,7 @@ module _ {V : Type 0} (K : Kind V) where
   abbrev pub finished : Level V → Counted (Wires V)
   finished f = pass K (gives (f .owner) (f .below) (f .cs)) (f .place) (drop (f .place) (f .owner .occurrences)) (f .ws)
 
+  -- what a level comes to
   abbrev pub comes : Onward → Level V → ℕ → Doing V → Stepped V
   comes up f n for-outputs = up .with-outputs (map (finished f .values) (f .owner .outs)) (n + finished f .count)
   comes up f n for-both =

@@ -11,7 +11,7 @@ use Rattle.rules.specs.Sound.{All}
 use Rattle.flat.specs.Flat.{Store, One-agrees, cell-bits, flat-count}
 use Rattle.flat.specs.Laws.{All2}
 use Rattle.flat.specs.Runs.{Room, Call, step, set-cell, clear, read, look, Answer, refused, counted, done, value-is, Start, not-started, started, Run, Outcome, start-with, power, call, trace}
-use Rattle.flat.specs.FlatRuns.{Flat, Flat-outcome, Flat-run, Flat-start}
+use Rattle.flat.specs.FlatRuns.{Flat, Flat-answer, flat-refused, flat-stepped, flat-done, bit-is, Flat-outcome, Flat-run, Flat-start}
 
 -- A run and a flat run
 
@@ -23,12 +23,12 @@ pub data Fed {V W : Type 0} (R : V → W → Type 0) : Call V → Call W → Typ
   fed-read : (k n : ℕ) → Fed R (read k n) (read k n)
   fed-look : (k j n t : ℕ) → Fed R (look k j n t) (look k j n t)
 
--- the answers of a run and of a flat run: the flat run counts no gates
-pub data Answered {V : Type 0} (R : V → Bool → Type 0) : Answer V → Answer Bool → Type 0 where
-  both-refused : (n : ℕ) → Answered R (refused n) (refused n)
-  both-stepped : (n : ℕ) → Answered R (counted n) done
-  both-done : Answered R done done
-  both-value : (v : V) (b : Bool) → R v b → Answered R (value-is v) (value-is b)
+-- the same answer, with a related bit for a value; the flat run counts no gates
+pub data Answered {V : Type 0} (R : V → Bool → Type 0) : Answer V → Flat-answer → Type 0 where
+  both-refused : (n : ℕ) → Answered R (refused n) (flat-refused n)
+  both-stepped : (n : ℕ) → Answered R (counted n) flat-stepped
+  both-done : Answered R done flat-done
+  both-value : (v : V) (b : Bool) → R v b → Answered R (value-is v) (bit-is b)
 
 -- all cells and the tape values, one by one, and the cycle
 pub record Alike {V : Type 0} (R : V → Bool → Type 0) (d : Design) (s : Run V) (f : Flat) : Type 0 where
@@ -51,6 +51,7 @@ module _ {V : Type 0} (K : Kind V) (s : Situation) where
   abbrev pub Admits-there : V → Bool → Type 0
   Admits-there v b = Admits K v s b
 
+  -- the values handed in, and those given back, are settled in the situation
   abbrev pub Settled-in : Call V → Type 0
   Settled-in (step ins r) = All-settled K ins s
   Settled-in (set-cell k v n) = Settled K v s
@@ -69,6 +70,7 @@ module _ {V : Type 0} (K : Kind V) (s : Situation) where
     pub tape : All-settled K (o .run .tape) s
     pub answer : Settled-answer (o .answer)
 
+-- a step's count is that of the flat gates
 abbrev pub Counts-right : {V : Type 0} → Design → Answer V → Type 0
 Counts-right d (refused n) = Unit {0}
 Counts-right d (counted n) = n ≡ flat-count d
