@@ -16,7 +16,7 @@ use Rattle.rules.specs.Boards.{part}
 use Rattle.rules.specs.Sound.{Sound}
 use Rattle.flat.specs.Laws.{All2}
 use Rattle.flat.specs.Runs.{Room, Call, step, Answer, refused, counted, done, value-is, started, Run, Outcome, start-with, power, call, trace}
-use Rattle.flat.specs.FlatRuns.{Flat, Flat-answer, flat-refused, flat-stepped, flat-done, bit-is, Flat-outcome}
+use Rattle.flat.specs.FlatRuns.{Flat, Flat-answer, refused-by, stepped, completed, bit-is, Flat-outcome}
 use Rattle.flat.specs.RunLaws.{Fed, fed-step, Answered, both-refused, both-stepped, both-done, both-value, Matches, Admits-there, As-defined, Follows, Never-denies, Stays-settled, Counts-flat-gates}
 use Rattle.flat.specs.Refuted.{toggle, second-input, outputs-all, cells-never-move, cells-move-once, count-invented, tape-said-early, unasked, Refuted}
 use Rattle.flat.proofs.Runs.{powered-law}
@@ -67,9 +67,9 @@ is-refused done = false
 is-refused (value-is v) = false
 
 abbrev flat-is-refused : Flat-answer → Bool
-flat-is-refused (flat-refused n) = true
-flat-is-refused flat-stepped = false
-flat-is-refused flat-done = false
+flat-is-refused (refused-by n) = true
+flat-is-refused stepped = false
+flat-is-refused completed = false
 flat-is-refused (bit-is b) = false
 
 refused-as : {R : Bool → Bool → Type 0} {a : Answer Bool} {b : Flat-answer} → Answered R a b → is-refused a ≡ flat-is-refused b

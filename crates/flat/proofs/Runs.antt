@@ -24,7 +24,7 @@ use Rattle.flat.specs.Passes.{first, outputs, next}
 use Rattle.flat.specs.Flat.{Place, Store, Bits, inside, Agrees-at, Agrees, flat-outputs, input-inside, input-bit, cell-places, cell-bits}
 use Rattle.flat.specs.Laws.{All2, Gates-keep}
 use Rattle.flat.specs.Runs.{Call, step, set-cell, clear, read, look, refused, Start, not-started, started, Run, Outcome, refusal, start-with, power, performed, carried-out, call, trace}
-use Rattle.flat.specs.FlatRuns.{Flat, flat-refused, flat-stepped, Flat-outcome, Wrong, Accepts, Flat-performed, Flat-call, Flat-run, Flat-start}
+use Rattle.flat.specs.FlatRuns.{Flat, refused-by, stepped, Flat-outcome, Wrong, Accepts, Flat-performed, Flat-call, Flat-run, Flat-start}
 use Rattle.flat.specs.RunLaws.{Fed, fed-step, fed-set, fed-clear, fed-read, fed-look, both-refused, both-stepped, both-done, both-value, Alike, Matches, Both-start, Admits-there, Follows, Settled-in, Settled-out, Counts-right, Sized, One, One-flat-run, Law-for-powered-runs, Law-for-cold-runs, Law-for-runs}
 use Rattle.flat.proofs.Lists.{refer-at}
 use Rattle.flat.proofs.Keep.{keep, getD-rel, append-rel, length-rel}
@@ -122,7 +122,7 @@ module _ {V : Type 0} (K : Kind V) (R : V → Bool → Type 0) (laws : Gates-kee
   carried-rel s f a {c} {e} h o (inr (ok, p)) r (inl (z, none)) = subst (λ n. Matches R d (carried-out K d s c n) o) (sym z) (performed-rel s f a h ok o p)
   carried-rel s f a {c} {e} h o (inl (m, x, p)) r (inr (n, z, y)) =
       let same : m ≡ suc n = refuses-one d (f .cycle) e m (suc n) x y in
-      subst (λ k. Matches R d (carried-out K d s c k) o) (sym z) (subst (Matches R d (record { run = s; answer = refused (suc n) })) (sym (p ∙ ap (λ k. record { run = f; answer = flat-refused k }) same)) (record { run = a; answer = both-refused (suc n) }))
+      subst (λ k. Matches R d (carried-out K d s c k) o) (sym z) (subst (Matches R d (record { run = s; answer = refused (suc n) })) (sym (p ∙ ap (λ k. record { run = f; answer = refused-by k }) same)) (record { run = a; answer = both-refused (suc n) }))
   carried-rel s f a {c} {e} h o (inr (ok, p)) r (inr (n, z, y)) = absurd (ok (suc n) (y .0))
 
   call-rel : (s : Run V) (f : Flat) → Alike R d s f → (c : Call V) (e : Call Bool) → Fed R c e → (o : Flat-outcome) → Flat-call d f e o → Matches R d (call K d s c) o
@@ -190,7 +190,7 @@ module _ (d : Design) (sound : Sound d) where
   call-some : (f : Flat) (c : Call Bool) → (o : Flat-outcome) × Flat-call d f c o
   call-some f c =
       let by : Decided (refusal d (f .cycle) c) (Wrong d (f .cycle) c) → (o : Flat-outcome) × Flat-call d f c o =
-      elim [ inl x ↦ (let p = performed-some f c in (p .0, inr (x .1, p .1))) | inr x ↦ (record { run = f; answer = flat-refused (suc (x .0)) }, inl (suc (x .0), x .2, refl)) ] in
+      elim [ inl x ↦ (let p = performed-some f c in (p .0, inr (x .1, p .1))) | inr x ↦ (record { run = f; answer = refused-by (suc (x .0)) }, inl (suc (x .0), x .2, refl)) ] in
       by (decides (λ a b. a ≡ b) d sound (f .cycle) (fed-same c))
 
   run-some : (f : Flat) (cs : List (Call Bool)) → (os : List Flat-outcome) × Flat-run d f cs os
@@ -206,14 +206,14 @@ module _ (d : Design) (sound : Sound d) where
       let b = y .0 in
       let outs : flat-outputs d b ≡ flat-outputs d a = outputs-known d sound ins (f .store) b (y .1) ∙ sym (outputs-known d sound ins (f .store) a (x .1)) in
       let after : input-bit d b ≡ input-bit d a = fun-ext (input-same d sound ins (f .store) b a (y .1) (x .1)) in
-      y .2 ∙ ap₂ (λ (store : Store) (vs : List Bool). record { run = record { store = store; tape = f .tape ++ vs; cycle = f .cycle + 1 }; answer = flat-stepped }) after outs ∙ sym (x .2)
+      y .2 ∙ ap₂ (λ (store : Store) (vs : List Bool). record { run = record { store = store; tape = f .tape ++ vs; cycle = f .cycle + 1 }; answer = stepped }) after outs ∙ sym (x .2)
   performed-one f (set-cell k b n) o p x y = y ∙ sym x
   performed-one f (clear n) o p x y = y ∙ sym x
   performed-one f (read k n) o p x y = y ∙ sym x
   performed-one f (look k j n t) o p x y = y ∙ sym x
 
   call-one : (f : Flat) (c : Call Bool) (o p : Flat-outcome) → Flat-call d f c o → Flat-call d f c p → p ≡ o
-  call-one f c o p (inl x) (inl y) = y .2 ∙ ap (λ n. record { run = f; answer = flat-refused n }) (refuses-one d (f .cycle) c (y .0) (x .0) (y .1) (x .1)) ∙ sym (x .2)
+  call-one f c o p (inl x) (inl y) = y .2 ∙ ap (λ n. record { run = f; answer = refused-by n }) (refuses-one d (f .cycle) c (y .0) (x .0) (y .1) (x .1)) ∙ sym (x .2)
   call-one f c o p (inl x) (inr y) = absurd (y .0 (x .0) (x .1 .0))
   call-one f c o p (inr x) (inl y) = absurd (x .0 (y .0) (y .1 .0))
   call-one f c o p (inr x) (inr y) = performed-one f c o p (x .1) (y .1)

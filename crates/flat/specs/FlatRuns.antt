@@ -18,8 +18,8 @@ pub record Flat : Type 0 where
 
 pub data Flat-answer : Type 0 where
   -- by this number
-  flat-refused : ℕ → Flat-answer
-  flat-stepped flat-done : Flat-answer
+  refused-by : ℕ → Flat-answer
+  stepped completed : Flat-answer
   bit-is : Bool → Flat-answer
 
 -- what a call leaves and what it answers
@@ -77,14 +77,14 @@ module _ (d : Design) where
   abbrev pub Flat-performed : Flat → Call Bool → Flat-outcome → Type 0
   -- a flat step: the output bits of the bits that agree go behind the tape, and each cell stores its input wire's bit
   Flat-performed s (step ins r) o =
-      (b : Bits) × Agrees d ins (s .store) b × (o ≡ record { run = record { store = input-bit d b; tape = s .tape ++ flat-outputs d b; cycle = s .cycle + 1 }; answer = flat-stepped })
-  Flat-performed s (set-cell k b n) o = o ≡ record { run = record { store = written (cell-place k) b (s .store); tape = s .tape; cycle = s .cycle }; answer = flat-done }
-  Flat-performed s (clear n) o = o ≡ record { run = record { store = λ p. false; tape = s .tape; cycle = s .cycle }; answer = flat-done }
+      (b : Bits) × Agrees d ins (s .store) b × (o ≡ record { run = record { store = input-bit d b; tape = s .tape ++ flat-outputs d b; cycle = s .cycle + 1 }; answer = stepped })
+  Flat-performed s (set-cell k b n) o = o ≡ record { run = record { store = written (cell-place k) b (s .store); tape = s .tape; cycle = s .cycle }; answer = completed }
+  Flat-performed s (clear n) o = o ≡ record { run = record { store = λ p. false; tape = s .tape; cycle = s .cycle }; answer = completed }
   Flat-performed s (read k n) o = o ≡ record { run = s; answer = bit-is (s .store (cell-place k)) }
   Flat-performed s (look k j n t) o = o ≡ record { run = s; answer = bit-is (getD (s .tape) (k * length (out-wires d) + j) false) }
 
   abbrev pub Flat-refused : Flat → Call Bool → Flat-outcome → Type 0
-  Flat-refused s c o = (n : ℕ) × Refuses d (s .cycle) c n × (o ≡ record { run = s; answer = flat-refused n })
+  Flat-refused s c o = (n : ℕ) × Refuses d (s .cycle) c n × (o ≡ record { run = s; answer = refused-by n })
 
   abbrev pub Flat-call : Flat → Call Bool → Flat-outcome → Type 0
   Flat-call s c o = Flat-refused s c o ⊎ (Accepts d (s .cycle) c × Flat-performed s c o)

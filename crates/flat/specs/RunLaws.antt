@@ -11,7 +11,7 @@ use Rattle.rules.specs.Sound.{All}
 use Rattle.flat.specs.Flat.{Store, One-agrees, cell-bits, flat-count}
 use Rattle.flat.specs.Laws.{All2}
 use Rattle.flat.specs.Runs.{Room, Call, step, set-cell, clear, read, look, Answer, refused, counted, done, value-is, Start, not-started, started, Run, Outcome, start-with, power, call, trace}
-use Rattle.flat.specs.FlatRuns.{Flat, Flat-answer, flat-refused, flat-stepped, flat-done, bit-is, Flat-outcome, Flat-run, Flat-start}
+use Rattle.flat.specs.FlatRuns.{Flat, Flat-answer, refused-by, stepped, completed, bit-is, Flat-outcome, Flat-run, Flat-start}
 
 -- A run and a flat run
 
@@ -25,9 +25,9 @@ pub data Fed {V W : Type 0} (R : V → W → Type 0) : Call V → Call W → Typ
 
 -- the same answer, with a related bit for a value; the flat run counts no gates
 pub data Answered {V : Type 0} (R : V → Bool → Type 0) : Answer V → Flat-answer → Type 0 where
-  both-refused : (n : ℕ) → Answered R (refused n) (flat-refused n)
-  both-stepped : (n : ℕ) → Answered R (counted n) flat-stepped
-  both-done : Answered R done flat-done
+  both-refused : (n : ℕ) → Answered R (refused n) (refused-by n)
+  both-stepped : (n : ℕ) → Answered R (counted n) stepped
+  both-done : Answered R done completed
   both-value : (v : V) (b : Bool) → R v b → Answered R (value-is v) (bit-is b)
 
 -- all cells and the tape values, one by one, and the cycle
