@@ -17,7 +17,7 @@ pub record Flat : Type 0 where
   pub cycle : ℕ
 
 pub data Flat-answer : Type 0 where
-  -- by this number
+  -- refused by this number
   refused-by : ℕ → Flat-answer
   stepped completed : Flat-answer
   bit-is : Bool → Flat-answer

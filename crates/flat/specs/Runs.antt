@@ -29,7 +29,7 @@ pub data Call (V : Type 0) : Type 0 where
   look : ℕ → ℕ → ℕ → ℕ → Call V
 
 pub data Answer (V : Type 0) : Type 0 where
-  -- by this number
+  -- refused by this number
   refused : ℕ → Answer V
   -- a step's number of gates evaluated
   counted : ℕ → Answer V
