@@ -1,0 +1,10 @@
+pub mod Passes
+pub mod Machine
+pub mod InPlace
+pub mod Windows
+pub mod Flat
+pub mod Laws
+pub mod Runs
+pub mod FlatRuns
+pub mod RunLaws
+pub mod Refuted
