@@ -5,3 +5,4 @@ mod Inputs
 mod Tallying
 mod Findings
 mod Judgings
+mod Lending

@@ -5,3 +5,4 @@ pub mod Summaries
 pub mod Tallies
 pub mod Decoded
 pub mod Sizes
+pub mod Lent

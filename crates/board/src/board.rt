@@ -1,8 +1,11 @@
 // A board: a file whose verdict is acceptance, with its tables. It exists only by judging, and borrows the file.
 ghost use mathlib.Core.Path.{_≡_};
 ghost use Rattle.board.specs.Decoded.{Accepted};
+ghost use Rattle.board.specs.Lent.{Right};
 ghost use Rattle.board.specs.Sizes.{Figured, Figures-of};
 use crate::figures::Figures;
+use crate::lent::Tables;
+use crate::lent::lend;
 use crate::tables::Judged;
 use crate::tables::Summary;
 
@@ -38,5 +41,13 @@ impl Board<'_> {
         ensures { λ r. ⌜ Figures-of (now (now (self .entry) .judged .file)) r ⌝ }
     {
         figures_of(self.judged.count, self.judged.summaries[0])
+    }
+
+    // The tables, with what reading them relies on.
+    pub fn tables(&self) -> Tables<'_>
+        ensures file { λ r. ⌜ now (r .file) ≡ now (now (self .entry) .judged .file) ⌝ }
+        ensures right { λ r. ⌜ Right r ⌝ }
+    {
+        lend(&self.judged)
     }
 }
