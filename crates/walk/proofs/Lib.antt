@@ -1,0 +1,15 @@
+pub mod Values
+pub mod Bytes
+pub mod Modules
+pub mod Sim
+pub mod Rows
+pub mod States
+pub mod Stores
+pub mod Ends
+pub mod Measure
+pub mod Counts
+pub mod LoopStates
+pub mod Turns
+pub mod Settles
+pub mod Begins
+pub mod Goes
