@@ -1,0 +1,6 @@
+mod Fills
+mod Bounds
+mod Tapes
+mod Slices
+mod SliceLaws
+mod WholeLaw
