@@ -1,33 +1,30 @@
-// Judges board.bin in the current folder, and says what it found.
-use board::judge;
-use board::seal;
+// Runs the board of board.bin in the current folder on three levels, by the lines of standard input.
 use std::fs;
 use std::io;
 use std::io::ErrorKind;
+use std::io::Read;
+use transcript::cab_transcript;
+use transcript::takes_input;
 
-fn report(rt: &impl Print, file: &[u8]) -> io::Result<()> {
-    match judge(file) {
-        Ok(judged) => {
-            let f = seal(judged).figures();
-            println!(
-                rt,
-                "modules {} cells {} places {} depth {}",
-                f.modules, f.cells, f.places, f.depth
-            )
-        }
-        Err(refusal) => {
-            let number = refusal.number();
-            let place = refusal.place();
-            println!(rt, "board {number} {place}")
-        }
+// No file is an empty file.
+fn read_board(rt: &LibcRuntime) -> io::Result<Vec<u8>> {
+    match fs::read(rt, "board.bin") {
+        Err(e) if e.kind() == ErrorKind::NotFound => Ok(Vec::new(rt.alloc())),
+        found => found,
     }
 }
 
+fn read_input(rt: &LibcRuntime, file: &[u8]) -> io::Result<Vec<u8>> {
+    let mut input = Vec::new(rt.alloc());
+    if takes_input(file) {
+        rt.stdin().read_to_end(&mut input)?;
+    }
+    Ok(input)
+}
+
 fn main(rt: LibcRuntime) -> io::Result<()> {
-    let file = match fs::read(&rt, "board.bin") {
-        Ok(bytes) => bytes,
-        Err(e) if e.kind() == ErrorKind::NotFound => Vec::new(rt.alloc()),
-        Err(e) => return Err(e),
-    };
-    report(&rt, file.as_slice())
+    let file = read_board(&rt)?;
+    let input = read_input(&rt, file.as_slice())?;
+    let text = cab_transcript(rt.alloc(), file.as_slice(), input.as_slice())?;
+    print!(rt, "{text}")
 }

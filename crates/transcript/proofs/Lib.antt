@@ -1,0 +1,3 @@
+mod Cutting
+mod Characters
+mod Desking

@@ -1,0 +1,5 @@
+pub mod Lines
+pub mod Printed
+pub mod Sessions
+pub mod Desks
+pub mod Cab
