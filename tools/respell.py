@@ -90,9 +90,9 @@ class Names:
 
     def code(self, text, labels):
         out, at = [], 0
-        for m in re.finditer(r"(?:(" + WORD + r")?(\.))?(" + WORD + ")", text):
-            out += [text[at : m.start(3)], self.turn(m[3], (m[1] or "") if m[2] else self.before(text, m.start()), labels)]
-            at = m.end(3)
+        for m in re.finditer(WORD, text):
+            out += [text[at : m.start()], self.turn(m[0], self.before(text, m.start()), labels)]
+            at = m.end()
         return "".join(out) + text[at:]
 
     @staticmethod

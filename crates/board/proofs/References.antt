@@ -80,8 +80,8 @@ module _ (below : ℕ → Design) (wires : ℕ) (dr : ℕ → Bool) (f : List �
         let k : asked (known below p) (Refer at) ≡ accepted = subst (λ q. asked (known below q) (Refer at) ≡ accepted) (part_is o reference er) ek in
         let t : picked (bit s.through) ins ≡ thr o.ins = through_picked below p s ins summary_is few ∙ ap thr ei in
         passed (asked (known below p) (Refer at)) _ k
-        ∙ ap (λ x. pins_judged x (length (outputs_due below p)) (thr o.ins) wires dr at o.ins o.outs) (sym summary-is.inputs)
-        ∙ ap (λ x. pins_judged s.inputs x (thr o.ins) wires dr at o.ins o.outs) (sym summary-is.outputs)
+        ∙ ap (λ x. pins_judged x (length (outputs_due below p)) (thr o.ins) wires dr at o.ins o.outs) (sym summary_is.inputs)
+        ∙ ap (λ x. pins_judged s.inputs x (thr o.ins) wires dr at o.ins o.outs) (sym summary_is.outputs)
         ∙ ap (λ x. pins_judged s.inputs s.outputs x wires dr at o.ins o.outs) (sym t)
         ∙ ap (λ x. pins_judged s.inputs s.outputs (picked (bit s.through) ins) wires dr at x o.outs) (sym ei)
         ∙ ap (λ x. pins_judged s.inputs s.outputs (picked (bit s.through) ins) wires dr at ins x) (sym eo)
@@ -93,4 +93,4 @@ module _ (below : ℕ → Design) (wires : ℕ) (dr : ℕ → Bool) (f : List �
         let thr = through_of (λ j. through (below j)) p in
         let t : picked (bit s.through) ins ≡ thr o.ins = through_picked below p s ins summary_is few ∙ ap thr ei in
         let m : bit mask ≡ reached ws (thr o.ins) = fun_ext (λ x. h x ∙ ap (any (λ w. ws w x)) t) in
-        ap (λ x. fill x (bit mask) ws) eo ∙ ap (λ v. fill o.outs v ws) m ∙ sym (put_fill o.outs (outputs_due below p) _ ws (ap length (sym eo) ∙ l ∙ summary-is.outputs))
+        ap (λ x. fill x (bit mask) ws) eo ∙ ap (λ v. fill o.outs v ws) m ∙ sym (put_fill o.outs (outputs_due below p) _ ws (ap length (sym eo) ∙ l ∙ summary_is.outputs))

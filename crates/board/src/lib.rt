@@ -1,4 +1,6 @@
 // Judging board files: a file becomes a board, or is refused by a number and a place.
+#![tactic(auto)]
+
 mod board;
 mod figures;
 mod judging;

@@ -1,4 +1,6 @@
 // Board files by chance, the same ones from the same seed, which the judge has to accept unless they are made too deep.
+#![tactic(auto)]
+
 pub mod dice;
 pub mod generator;
 mod maker;

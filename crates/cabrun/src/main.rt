@@ -1,4 +1,6 @@
 // Runs the board of board.bin in the current folder on three levels, by the lines of standard input.
+#![tactic(auto)]
+
 use std::fmt::Display;
 use std::io::{ErrorKind, Read};
 use std::{fs, io};

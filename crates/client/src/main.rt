@@ -1,4 +1,6 @@
 // How a program uses the library: it drives a board, rewrites the board's file in its buffer, and drives it again.
+#![tactic(auto)]
+
 mod drive;
 mod trouble;
 

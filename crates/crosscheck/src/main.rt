@@ -1,6 +1,8 @@
 // Compares the library with a flat evaluator that shares no code with it, on boards by chance.
 //
 // crosscheck [BOARDS [SEED [FIRST]]]: so many boards from the first on, each on all kinds.
+#![tactic(auto)]
+
 mod choice;
 mod kinds;
 mod library;

@@ -119,10 +119,10 @@ module _ (carry : Run Bool → Call Bool → Outcome Bool) (h : NeverDenies bits
       (run.0, (follows carry h).1 three three (fed carry h) run.0 run.1, (follows right law.never_denies).1 three three (fed carry h) run.0 run.1)
 
   tapes : map (λ (o : Outcome Bool). o.run.tape) (trace carry begun three) ≡ map (λ (o : Outcome Bool). o.run.tape) (trace right begun three)
-  tapes = same_tapes (trace carry begun three) (trace right begun three) follow-both.0 follow-both.1 follow-both.2
+  tapes = same_tapes (trace carry begun three) (trace right begun three) follow_both.0 follow_both.1 follow_both.2
 
   refusals : map (λ (o : Outcome Bool). is_refused o.answer) (trace carry begun three) ≡ map (λ (o : Outcome Bool). is_refused o.answer) (trace right begun three)
-  refusals = same_refusals (trace carry begun three) (trace right begun three) follow-both.0 follow-both.1 follow-both.2
+  refusals = same_refusals (trace carry begun three) (trace right begun three) follow_both.0 follow_both.1 follow_both.2
 
 -- output 0 of a cycle on the tape that the third step leaves
 abbrev third : ℕ → List (List Bool) → Bool

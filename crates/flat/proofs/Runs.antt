@@ -141,7 +141,7 @@ module _ (below : ℕ → Design) (ih : (j : ℕ) → Sound (below j) → (ins :
   inside_same store a b i o (Some (gate g)) refer e agree_a agree_b way = refl
   inside_same store a b i o (Some cell) refer e agree_a agree_b way = ap (λ (vs : List Bool). get_or vs 0 false) (sym e)
   inside_same store a b i o (Some (module_no j)) refer e agree_a agree_b way =
-      ih j refer (map (a []) o.ins) (inside i store) (inside i a) (inside i b) agree-a.1 (subst (λ vs. Agrees (below j) vs (inside i store) (inside i b)) e agree-b.1) way
+      ih j refer (map (a []) o.ins) (inside i store) (inside i a) (inside i b) agree_a.1 (subst (λ vs. Agrees (below j) vs (inside i store) (inside i b)) e agree_b.1) way
   inside_same store a b i o None refer e agree_a agree_b way = refl
 
 low_part : part no_occurrence ≡ Some (gate Low)
@@ -155,7 +155,7 @@ input_same (node m below) sound ins store a b agree_a agree_b (i ∷ way) =
     let F : Bits → ℕ → Place → Bool = λ x j. input_bit (below j) (inside i x) in
     let by : (i < length m.occurrences) ⊎ (length m.occurrences ≤ i) → input_bit (node m below) a (i ∷ way) ≡ input_bit (node m below) b (i ∷ way) =
     elim [
-      | inl h ↦ inside_same below (λ j. input_same (below j)) store a b i (occurrence_no m i) (part (occurrence_no m i)) (refer_at m below sound i h) (ins_known m below sound ins store b agree_b i h ∙ sym (ins_known m below sound ins store a agree_a i h)) (agree-a.1 i h) (agree-b.1 i h) way
+      | inl h ↦ inside_same below (λ j. input_same (below j)) store a b i (occurrence_no m i) (part (occurrence_no m i)) (refer_at m below sound i h) (ins_known m below sound ins store b agree_b i h ∙ sym (ins_known m below sound ins store a agree_a i h)) (agree_a.1 i h) (agree_b.1 i h) way
       | inr h ↦ subst (λ (o : Occurrence). input_inside (F a) (part o) (map (a []) o.ins) way ≡ input_inside (F b) (part o) (map (b []) o.ins) way) (sym (get_or_past m.occurrences i no_occurrence h))
           (ap (λ q. input_inside (F a) q [] way) low_part ∙ sym (ap (λ q. input_inside (F b) q [] way) low_part))
     ] in

@@ -118,7 +118,7 @@ module _ (below : ℕ → Design) (ih : (j : ℕ) → Sound (below j) → (ins :
   inside_alone store a b i o (Some (gate g)) refer e agree_a agree_b way w has = elim has [ ]
   inside_alone store a b i o (Some cell) refer e agree_a agree_b way w has = elim has [ ]
   inside_alone store a b i o (Some (module_no j)) refer e agree_a agree_b way w has =
-      ih j refer (map (a []) o.ins) (inside i store) (inside i a) (inside i b) agree-a.1 (subst (λ is. Agrees (below j) is (inside i store) (inside i b)) e agree-b.1) way w has
+      ih j refer (map (a []) o.ins) (inside i store) (inside i a) (inside i b) agree_a.1 (subst (λ is. Agrees (below j) is (inside i store) (inside i b)) e agree_b.1) way w has
   inside_alone store a b i o None refer e agree_a agree_b way w has = elim has [ ]
 
 pub alone : (d : Design) → Sound d → (ins : List Bool) (store : Store) (a b : Bits) → Agrees d ins store a → Agrees d ins store b → (way : Place) (w : ℕ) → HasWire d way w → a way w ≡ b way w
@@ -126,7 +126,7 @@ alone absent sound ins store a b agree_a agree_b way w has = elim has [ ]
 alone (node m below) sound ins store a b agree_a agree_b [] w has = wires_known m below sound ins store a agree_a w has ∙ sym (wires_known m below sound ins store b agree_b w has)
 alone (node m below) sound ins store a b agree_a agree_b (i ∷ way) w has =
     inside_alone below (λ j. alone (below j)) store a b i (occurrence_no m i) (part (occurrence_no m i)) (refer_at m below sound i has.0)
-    (ins_known m below sound ins store b agree_b i has.0 ∙ sym (ins_known m below sound ins store a agree_a i has.0)) (agree-a.1 i has.0) (agree-b.1 i has.0) way w has.1
+    (ins_known m below sound ins store b agree_b i has.0 ∙ sym (ins_known m below sound ins store a agree_a i has.0)) (agree_a.1 i has.0) (agree_b.1 i has.0) way w has.1
 
 -- one entry of the state list
 module _ (below : ℕ → Design) (ih : (j : ℕ) → Sound (below j) → (ins : List Bool) (store : Store) (b : Bits) → Agrees (below j) ins store b → cell_bits (below j) (input_bit (below j) b) ≡ next bits (below j) ins (cell_bits (below j) store)) where

@@ -1,4 +1,6 @@
 // A step by two passes, the flat board, and the law for runs: definitions and theorems, with no program.
+#![tactic(auto)]
+
 ghost use Rattle.rules.specs.Boards.{Design};
 ghost use Rattle.rules.specs.Sound.{Sound};
 ghost use Rattle.flat.specs.InPlace.{CellsInPlace};

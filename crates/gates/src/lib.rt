@@ -1,4 +1,6 @@
 // The gates of a board, and what a reference number stands for.
+#![tactic(auto)]
+
 ghost use Rattle.std.specs.Prelude.{◌≡◌};
 ghost use Rattle.gates.specs.Gates.{part_of, inputs_of};
 ghost use Rattle.gates.specs.Words.{TableStands};

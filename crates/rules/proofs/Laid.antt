@@ -228,19 +228,19 @@ module _ (f : List ℕ) (e : records_read f ≡ accepted) where
   passes_short = leb-true (length f) 32768 (asked_accepted _ Long (then_left (asked (leb (length f) 32768) Long) checks e))
 
   head_stands : RecordAt f 0 1 (body f 0) × (board_shape (body f 0) ≡ true)
-  head_stands = read_record f 0 1 board_shape checks-pass.0
+  head_stands = read_record f 0 1 board_shape checks_pass.0
 
   head_shape : BoardShape (body f 0)
-  head_shape = board_right (body f 0) head-stands.1
+  head_shape = board_right (body f 0) head_stands.1
 
   head_ends : end_of f 0 ≡ 6
-  head_ends = let l : length (body f 0) ≡ 2 = ap length head-shape.bytes in (found f 0 1 (body f 0) head-stands.0).ends ∙ omega arith
+  head_ends = let l : length (body f 0) ≡ 2 = ap length head_shape.bytes in (found f 0 1 (body f 0) head_stands.0).ends ∙ omega arith
 
-  head_counts : word head-shape.low head-shape.high ≡ length (board_of f)
-  head_counts = sym (length_board f ∙ ap (λ b. number_at b 0) head-shape.bytes)
+  head_counts : word head_shape.low head_shape.high ≡ length (board_of f)
+  head_counts = sym (length_board f ∙ ap (λ b. number_at b 0) head_shape.bytes)
 
   row : Row (ModuleStands f) module_size 6 (board_of f)
-  row = subst (λ p. Row (ModuleStands f) module_size p (board_of f)) head_ends (modules_stand f (module_count f) (end_of f 0) checks-pass.1).0
+  row = subst (λ p. Row (ModuleStands f) module_size p (board_of f)) head_ends (modules_stand f (module_count f) (end_of f 0) checks_pass.1).0
 
   stands_no : (k : ℕ) → k < length (board_of f) → ModuleStands f (module_start (board_of f) k) (module_number (board_of f) k)
   stands_no k h = row_no (ModuleStands f) module_size no_module (board_of f) 6 row k h
@@ -260,17 +260,17 @@ module _ (f : List ℕ) (e : records_read f ≡ accepted) where
   passes_laid_out =
       record {
         head_body = body f 0;
-        head = head-stands.0;
-        head_is = record { low = head-shape.low; high = head-shape.high; bytes = head-shape.bytes; modules_is = head_counts };
+        head = head_stands.0;
+        head_is = record { low = head_shape.low; high = head_shape.high; bytes = head_shape.bytes; modules_is = head_counts };
         modules = λ k h. (stands_no k h).stands;
         occurrences = λ k h i l.
             let s = row_no (OccurrenceStands f) occurrence_size no_occurrence (module_number (board_of f) k).occurrences (module_start (board_of f) k + head_size (module_number (board_of f) k)) (stands_no k h).occurrences i l in
             (s.bytes, s.stands, s.reads);
-        ends = sym (passes_module_place (length (board_of f)) (omega arith)) ∙ ap (module_place f) (length_board f) ∙ (modules_stand f (module_count f) (end_of f 0) checks-pass.1).1;
+        ends = sym (passes_module_place (length (board_of f)) (omega arith)) ∙ ap (module_place f) (length_board f) ∙ (modules_stand f (module_count f) (end_of f 0) checks_pass.1).1;
       }
 
   pub passes_range : BoardRange (board_of f)
-  passes_range = record { some = omega (arith, head_counts, head-shape.some); few = omega (arith, head_counts, head-shape.few); each = λ k h. (stands_no k h).range }
+  passes_range = record { some = omega (arith, head_counts, head_shape.some); few = omega (arith, head_counts, head_shape.few); each = λ k h. (stands_no k h).range }
 
 -- The records of a board pass
 

@@ -1,5 +1,7 @@
 // Runs of a board on any signal kind, and the calls on them. The caller lends the memory: cells, tape, working values and
 // level records.
+#![tactic(auto)]
+
 ghost use Rattle.std.specs.Prelude.{◌≡◌};
 ghost use Rattle.run.specs.Examples.{WorkedExamples};
 ghost use Rattle.run.specs.AllExamples.{AllExamples};

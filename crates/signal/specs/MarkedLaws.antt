@@ -51,7 +51,7 @@ unfolding some_below
 some_same zero p q h = refl
 some_same (suc n) p q h = rw (some_same n p q (λ i l. h i (omega arith)), h n (omega arith))
 
-meets_all : (m : ℕ) → some_below 64 (has m) ≡ true → meets all-marks.marks m ≡ true
+meets_all : (m : ℕ) → some_below 64 (has m) ≡ true → meets all_marks.marks m ≡ true
 meets_all m e = some_same 64 (λ i. nat_lt i 64 && has m i) (has m) (λ i l. rw (lt-ltb i 64 l)) ∙ e
 
 module _ {V : Type 0} (k : Kind V) (law : Lawful k) where

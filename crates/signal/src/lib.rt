@@ -1,4 +1,6 @@
 // Signal kinds: what a wire can carry, with one set of rules for all of them, and the gates on any kind.
+#![tactic(auto)]
+
 ghost use Rattle.std.specs.Prelude.{◌≡◌, [], ◌∷◌};
 ghost use Rattle.signal.specs.Cases.{Cases};
 ghost use Rattle.signal.specs.GateValues.{gate_value, GatesOnBits, GatesStand};
@@ -57,7 +59,7 @@ pub trait WithUnknown: Signal {
     fn unknown() -> Self
         ensures { result ≡ blank };
 
-    ghost open: { AdmitsBoth kind blank };
+    ghost open: { AdmitsBoth Self.kind blank };
 }
 
 // The gate's value of three operands; a gate of fewer inputs leaves the last ones aside.

@@ -1,4 +1,6 @@
 // Tests of the signal kinds against tables that are computed here, without the kinds' own functions.
+#![tactic(auto)]
+
 #[cfg(test)]
 mod tests {
     use gates::Gate;

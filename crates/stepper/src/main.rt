@@ -4,6 +4,8 @@
 //
 // KIND is b (bits), t (three levels) or r (64 rows). A line on stdout has a checksum over all outputs and counts, and the
 // total count; with the word time, a line on stderr has the nanoseconds per step. bench/plain.rs prints the same line.
+#![tactic(auto)]
+
 mod fault;
 mod memory;
 mod runs;

@@ -1,4 +1,6 @@
 // What the cab program prints, as a function of the board file and of the input.
+#![tactic(auto)]
+
 mod cab;
 mod printing;
 mod reading;

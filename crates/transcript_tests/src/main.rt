@@ -1,5 +1,7 @@
 // Makes the text for each board and input of data/, and compares it with the expected one.
 // tests/reference/transcripts.py makes the data.
+#![tactic(auto)]
+
 use std::{fs, io};
 use transcript::cab_transcript;
 

@@ -1,5 +1,7 @@
 // Judges the files of data/ with the board library, and compares each verdict with the expected one.
 // tests/reference/cases.py makes the data and says how they are laid out.
+#![tactic(auto)]
+
 mod case;
 mod reader;
 mod verdict;

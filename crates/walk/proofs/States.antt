@@ -118,10 +118,10 @@ module _ {V : Type 0} {K : Kind V} {board : List Module} (r : Running K board) w
     child_there = Modules.child_is board r.sounds c.number one.number i l j e
 
     child_design : f.below j ≡ node child (behind board j)
-    child_design = ap (λ (b : ℕ → Design). b j) one.below ∙ child-there.1
+    child_design = ap (λ (b : ℕ → Design). b j) one.below ∙ child_there.1
 
     child_inputs : length (o i).ins ≡ child.inputs
-    child_inputs = Modules.ins_count board r.sounds c.number one.number i l (Some (module_no j)) e ∙ ap in_count child-there.1
+    child_inputs = Modules.ins_count board r.sounds c.number one.number i l (Some (module_no j)) e ∙ ap in_count child_there.1
 
     pub deeper : (g : Frame V) → tick K M ≡ busy g (f ∷ fs) r.n → length fs + 1 < 8
     deeper g path =
@@ -134,14 +134,14 @@ module _ {V : Type 0} {K : Kind V} {board : List Module} (r : Running K board) w
         let q = deeper g path in
         let a = one.low in
         let b = (r.range.each c.number one.number).wires in
-        let d = r.range.each j child-there.0 in
+        let d = r.range.each j child_there.0 in
         let x = d.wires in
         let y = d.inputs_wired in
         let z = child_inputs in
         let s = r.size in
         record {
           number = one.number;
-          child = child-there.0;
+          child = child_there.0;
           fits = omega arith;
           few = omega arith;
           wired = Modules.ins_below board r.sounds c.number one.number i l;
@@ -161,7 +161,7 @@ module _ {V : Type 0} {K : Kind V} {board : List Module} (r : Running K board) w
         let rest' : (k : ℕ) → child.inputs ≤ k → k < child.wires → get_or work' (child_base board c + k) K.low ≡ K.low = λ k q l'. op.rest k (let x = child_inputs in omega arith) l' in
         let new : ShowsLevel K board r.held work' cf g (f ∷ fs) =
         record {
-          number = child-there.0;
+          number = child_there.0;
           first = (λ e. let z : ⊥ = omega arith in absurd z);
           owner = refl;
           below = refl;
@@ -237,7 +237,7 @@ module _ {V : Type 0} {K : Kind V} {board : List Module} (r : Running K board) w
           )
 
       pub cell_there : part (o c.place) ≡ Some cell → c.cell + cells_ahead board c.number c.place < length r.held
-      cell_there e = let a = own-holds.0 in let b = ap (cells_of (λ j. cells (below j))) e in omega arith
+      cell_there e = let a = own_holds.0 in let b = ap (cells_of (λ j. cells (below j))) e in omega arith
 
       pub cell_state : part (o c.place) ≡ Some cell → (work' : List V) (ls' : List Level) → work' ≡ writes K c.base (o c.place).outs (get_or r.held (c.cell + cells_ahead board c.number c.place) K.low ∷ []) r.work → ls' ≡ set r.ls (length fs) (placed c (c.place + 1)) → State K board r.held work' ls' r.depth r.count (tick K M)
       cell_state e work' ls' ew el =
@@ -245,7 +245,7 @@ module _ {V : Type 0} {K : Kind V} {board : List Module} (r : Running K board) w
           let x = own f.owner f.below f.cs in
           let at = c.cell + cells_ahead board c.number c.place in
           let z : at ≡ at + 0 = omega arith in
-          let v : get_or r.held at K.low ≡ input K (x f.place) 0 = ap (λ q. get_or r.held q K.low) z ∙ own-holds.1 0 (omega arith) ∙ ap (λ q. get_or (x q) 0 K.low) (sym one.place) in
+          let v : get_or r.held at K.low ≡ input K (x f.place) 0 = ap (λ q. get_or r.held q K.low) z ∙ own_holds.1 0 (omega arith) ∙ ap (λ q. get_or (x q) 0 K.low) (sym one.place) in
           passed_state (input K (x f.place) 0 ∷ []) r.n r.count r.s.frames.1 (tick_here (Some cell) e) work' ls' (ew ∙ ap (λ q. writes K c.base (o c.place).outs (q ∷ []) r.work) v) el
 
       module _ (j : ℕ) (e : part (o c.place) ≡ Some (module_no j)) where

@@ -170,7 +170,7 @@ module _ {V : Type 0} {K : Kind V} {board : List Module} (r : Running K board) (
         omega arith
 
     pub cell_there : part (o i) ≡ Some cell → c.cell < length r.held
-    cell_there e = let a = rest-holds.0 in let b = size_is (Some cell) e in omega arith
+    cell_there e = let a = rest_holds.0 in let b = size_is (Some cell) e in omega arith
 
     pub store_state : part (o i) ≡ Some cell → (held' : List V) (ls' : List Level) → held' ≡ set r.held c.cell (get_or r.work (c.base + get_or (o i).ins 0 0) K.low) → ls' ≡ set r.ls (length fs) (advanced c (c.place + 1) (c.cell + 1)) → State K board held' r.work ls' r.depth r.count (tick K M)
     store_state e held' ls' eh el =

@@ -175,10 +175,10 @@ module _ {V : Type 0} (K : Kind V) (t : Tables) (right : Right t) (held work : L
         c e M s (p, is.within) is.part_is
 
     pub enter_there : top + 1 < length ls
-    enter_there = enter-by.0
+    enter_there = enter_by.0
 
     pub enter_can : Enterable board c ch.number ch.ins.now (length work)
-    enter_can = subst (λ (x : List ℕ). Enterable board c ch.number x (length work)) (sym is.ins_are) enter-by.1
+    enter_can = subst (λ (x : List ℕ). Enterable board c ch.number x (length work)) (sym is.ins_are) enter_by.1
 
     pub enter_on : ch.cell ≡ c.cell + cells_ahead board c.number c.place → (work' : List V) (ls' : List Level) → Opened K c.base ch.ins.now (child_base board c) (module_number board ch.number).wires work work' → ls' ≡ set ls (top + 1) (child_level board c ch.number ForOutputs ch.cell) → State K board held work' ls' (top + 2) count (tick K M)
     enter_on ec work' ls' op el =

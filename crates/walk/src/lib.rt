@@ -1,4 +1,6 @@
 // One step of a board on any signal kind, over a stack of levels in memory that the caller lends.
+#![tactic(auto)]
+
 ghost use Rattle.std.specs.Prelude.{◌≡◌, length, is_some, MatchOption};
 ghost use Rattle.walk.specs.Steps.{design_in, fits_board, Step, Untouched};
 
