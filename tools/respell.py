@@ -83,7 +83,7 @@ class Names:
     def turn(self, word, behind, labels):
         if not self.is_own(word) or word in labels:
             return word
-        if behind is not None and labels is not NO_LABELS and (behind in HEADS or behind in HOLDERS or word not in self.fields):
+        if behind is not None and labels is not NO_LABELS and not behind[:1].isupper() and (behind in HEADS or behind in HOLDERS or word not in self.fields):
             return word
         self.seen[word] += 1
         return respelled(word)

@@ -17,5 +17,5 @@ pub use figures::Figures;
 pub use judging::judge;
 pub use layout::ModuleRecords;
 pub use lent::Tables;
-pub use rules::{Refusal, RefusalDebug};
+pub use rules::Refusal;
 pub use tables::Judged;

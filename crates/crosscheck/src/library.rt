@@ -5,7 +5,6 @@ use board_maker::dice::Dice;
 use flat_evaluator::calls::{Answer, Call, Room};
 use run::{CallRefusal, Level, Run, power};
 use std::alloc::{AllocError, Global};
-use walk::LevelDebug;
 
 #[derive(Drop)]
 pub struct Lent<K> {

@@ -1,7 +1,7 @@
 // The stack of levels: a level's first pass and its second, modules entered and left.
 ghost use Rattle.std.specs.Prelude.{◌≡◌, ℕ, ◌+◌, ◌-◌, ◌^◌, ◌<◌, ◌≤◌, ◌≢◌, map, length, slice_index_or, slice_set};
 ghost use Rattle.board.specs.Lent.{board_in, Right};
-ghost use Rattle.flat.specs.Machine.{Machine, result};
+ghost use Rattle.flat.specs.Machine.{Machine, result as result_of};
 ghost use Rattle.flat.specs.Windows.{writes};
 ghost use Rattle.walk.specs.Levels.{level_at, module_in, use_in, placed, advanced, child_base, child_level, Enterable, Leavable, Opened};
 ghost use Rattle.walk.specs.Shown.{State, Later, After, StopFirst, StopSecond};
@@ -30,10 +30,10 @@ fn settle<'b, K: Signal>(
     requires level { top < length levels.old }
     requires number { (level_at levels.old top).number < length (board_in tables) }
     requires pass { (level_at levels.old top).pass ≢ Storing }
-    requires shown { (M : Machine K) × State K.Signal.kind (board_in tables) cells.now work.old levels.old (top + 1) count M × ((result K.Signal.kind M).count + 1 < 2 ^ 32) }
-    ensures* levels { λ _. ⌜ levels.new ≡ slice_set levels.old top (placed (level_at levels.old top) (level_at levels.new top).place) ⌝ }
-    ensures* stop { λ r. ⌜ StopFirst (board_in tables.entry) (level_at levels.new top) r.0 ⌝ }
-    ensures* runs { λ r. ⌜ ((M : Machine K) → State K.Signal.kind (board_in tables.entry) cells.now work.old levels.old (top + 1) count M → Later K.Signal.kind (board_in tables.entry) cells.now work.new levels.new (top + 1) r.1 M) ⌝ }
+    requires shown { (M : Machine K) × State K.Signal.kind (board_in tables) cells.now work.old levels.old (top + 1) count M × ((result_of K.Signal.kind M).count + 1 < 2 ^ 32) }
+    ensures levels { levels.new ≡ slice_set levels.old top (placed (level_at levels.old top) (level_at levels.new top).place) }
+    ensures stop { StopFirst (board_in tables.entry) (level_at levels.new top) result.0 }
+    ensures runs { (M : Machine K) → State K.Signal.kind (board_in tables.entry) cells.now work.old levels.old (top + 1) count M → Later K.Signal.kind (board_in tables.entry) cells.now work.new levels.new (top + 1) result.1 M }
 {
     let number = levels[top].number;
     let base = levels[top].base;
@@ -82,9 +82,9 @@ fn store<'b, K: Signal>(
     requires number { (level_at levels.old top).number < length (board_in tables) }
     requires pass { (level_at levels.old top).pass ≡ Storing }
     requires shown { (M : Machine K) × (count : ℕ) × State K.Signal.kind (board_in tables) cells.old work.now levels.old (top + 1) count M }
-    ensures* levels { λ _. ⌜ levels.new ≡ slice_set levels.old top (advanced (level_at levels.old top) (level_at levels.new top).place (level_at levels.new top).cell) ⌝ }
-    ensures* stop { λ r. ⌜ StopSecond (board_in tables.entry) (level_at levels.new top) r ⌝ }
-    ensures* runs { λ r. ⌜ ((M : Machine K) (count : ℕ) → State K.Signal.kind (board_in tables.entry) cells.old work.now levels.old (top + 1) count M → Later K.Signal.kind (board_in tables.entry) cells.new work.now levels.new (top + 1) count M) ⌝ }
+    ensures levels { levels.new ≡ slice_set levels.old top (advanced (level_at levels.old top) (level_at levels.new top).place (level_at levels.new top).cell) }
+    ensures stop { StopSecond (board_in tables.entry) (level_at levels.new top) result }
+    ensures runs { (M : Machine K) (count : ℕ) → State K.Signal.kind (board_in tables.entry) cells.old work.now levels.old (top + 1) count M → Later K.Signal.kind (board_in tables.entry) cells.new work.now levels.new (top + 1) count M }
 {
     let number = levels[top].number;
     let base = levels[top].base;
@@ -125,8 +125,8 @@ fn enter<K: Signal>(
     requires right { Right tables }
     requires enterable { Enterable (board_in tables) (level_at levels.old top) child.number child.ins.now (length work.old) }
     requires level { top + 1 < length levels.old }
-    ensures* work { λ _. ⌜ Opened K.Signal.kind (level_at levels.old top).base child.entry.ins.now (child_base (board_in tables.entry) (level_at levels.old top)) (module_in tables.entry child.entry.number).wires work.old work.new ⌝ }
-    ensures* levels { λ _. ⌜ levels.new ≡ slice_set levels.old (top + 1) (child_level (board_in tables.entry) (level_at levels.old top) child.entry.number pass child.entry.cell) ⌝ }
+    ensures work { Opened K.Signal.kind (level_at levels.old top).base child.entry.ins.now (child_base (board_in tables.entry) (level_at levels.old top)) (module_in tables.entry child.entry.number).wires work.old work.new }
+    ensures levels { levels.new ≡ slice_set levels.old (top + 1) (child_level (board_in tables.entry) (level_at levels.old top) child.entry.number pass child.entry.cell) }
 {
     let base = levels[top].base;
     let start = base + records(tables, levels[top].number).counts.wires as usize;
@@ -147,8 +147,8 @@ fn leave<K: Signal>(tables: Tables, work: &mut [K], levels: &mut [Level], top: u
     requires leavable { Leavable (board_in tables) (level_at levels.old top) (level_at levels.old (top - 1)) (length work.old) }
     requires level { top < length levels.old }
     requires some { 0 < top }
-    ensures* work { λ _. ⌜ work.new ≡ writes K.Signal.kind (level_at levels.old (top - 1)).base (use_in tables.entry (level_at levels.old (top - 1)).number (level_at levels.old (top - 1)).place).outs (map (λ w. slice_index_or work.old ((level_at levels.old top).base + w) K.Signal.kind.low) (module_in tables.entry (level_at levels.old top).number).outs) work.old ⌝ }
-    ensures* levels { λ _. ⌜ levels.new ≡ slice_set levels.old (top - 1) (placed (level_at levels.old (top - 1)) ((level_at levels.old (top - 1)).place + 1)) ⌝ }
+    ensures work { work.new ≡ writes K.Signal.kind (level_at levels.old (top - 1)).base (use_in tables.entry (level_at levels.old (top - 1)).number (level_at levels.old (top - 1)).place).outs (map (λ w. slice_index_or work.old ((level_at levels.old top).base + w) K.Signal.kind.low) (module_in tables.entry (level_at levels.old top).number).outs) work.old }
+    ensures levels { levels.new ≡ slice_set levels.old (top - 1) (placed (level_at levels.old (top - 1)) ((level_at levels.old (top - 1)).place + 1)) }
 {
     let up = top - 1;
     let place = levels[up].place;
@@ -163,7 +163,7 @@ fn rise(levels: &mut [Level], top: usize)
     requires level { top < length levels.old }
     requires some { 0 < top }
     requires small { (level_at levels.old (top - 1)).place < 64 }
-    ensures* { λ _. ⌜ levels.new ≡ slice_set levels.old (top - 1) (advanced (level_at levels.old (top - 1)) ((level_at levels.old (top - 1)).place + 1) (level_at levels.old top).cell) ⌝ }
+    ensures { levels.new ≡ slice_set levels.old (top - 1) (advanced (level_at levels.old (top - 1)) ((level_at levels.old (top - 1)).place + 1) (level_at levels.old top).cell) }
 {
     let up = top - 1;
     let cell = levels[top].cell;
@@ -187,8 +187,8 @@ fn go_on<K: Signal>(
     requires level { top < length levels.old }
     requires number { (level_at levels.old top).number < length (board_in tables) }
     requires pass { (level_at levels.old top).pass ≢ Storing }
-    requires shown { (M : Machine K) × State K.Signal.kind (board_in tables) cells.now work.old levels.old (top + 1) count M × ((result K.Signal.kind M).count + 1 < 2 ^ 32) }
-    ensures* { λ r. ⌜ ((M : Machine K) → State K.Signal.kind (board_in tables.entry) cells.now work.old levels.old (top + 1) count M → After K.Signal.kind (board_in tables.entry) cells.now work.new levels.new r.0 r.1 M) ⌝ }
+    requires shown { (M : Machine K) × State K.Signal.kind (board_in tables) cells.now work.old levels.old (top + 1) count M × ((result_of K.Signal.kind M).count + 1 < 2 ^ 32) }
+    ensures { (M : Machine K) → State K.Signal.kind (board_in tables.entry) cells.now work.old levels.old (top + 1) count M → After K.Signal.kind (board_in tables.entry) cells.now work.new levels.new result.0 result.1 M }
 {
     let (stop, total) = settle(tables, cells, work, levels, top, count);
     if let Some(child) = stop {
@@ -219,7 +219,7 @@ fn store_on<K: Signal>(
     requires number { (level_at levels.old top).number < length (board_in tables) }
     requires pass { (level_at levels.old top).pass ≡ Storing }
     requires shown { (M : Machine K) × (count : ℕ) × State K.Signal.kind (board_in tables) cells.old work.old levels.old (top + 1) count M }
-    ensures* { λ r. ⌜ ((M : Machine K) (count : ℕ) → State K.Signal.kind (board_in tables.entry) cells.old work.old levels.old (top + 1) count M → After K.Signal.kind (board_in tables.entry) cells.new work.new levels.new r count M) ⌝ }
+    ensures { (M : Machine K) (count : ℕ) → State K.Signal.kind (board_in tables.entry) cells.old work.old levels.old (top + 1) count M → After K.Signal.kind (board_in tables.entry) cells.new work.new levels.new result count M }
 {
     if let Some(child) = store(tables, cells, work, levels, top) {
         enter(tables, child, Pass::ForBoth, work, levels, top);
@@ -243,8 +243,8 @@ pub(crate) fn turn<K: Signal>(
     requires right { Right tables }
     requires many { 8 ≤ length levels.old }
     requires size { 1024 ≤ length work.old }
-    requires shown { (M : Machine K) × State K.Signal.kind (board_in tables) cells.old work.old levels.old (top + 1) count M × ((result K.Signal.kind M).count + 1 < 2 ^ 32) }
-    ensures* { λ r. ⌜ ((M : Machine K) → State K.Signal.kind (board_in tables.entry) cells.old work.old levels.old (top + 1) count M → After K.Signal.kind (board_in tables.entry) cells.new work.new levels.new r.0 r.1 M) ⌝ }
+    requires shown { (M : Machine K) × State K.Signal.kind (board_in tables) cells.old work.old levels.old (top + 1) count M × ((result_of K.Signal.kind M).count + 1 < 2 ^ 32) }
+    ensures { (M : Machine K) → State K.Signal.kind (board_in tables.entry) cells.old work.old levels.old (top + 1) count M → After K.Signal.kind (board_in tables.entry) cells.new work.new levels.new result.0 result.1 M }
 {
     if let Pass::Storing = levels[top].pass {
         return (store_on(tables, cells, work, levels, top), count);

@@ -2,7 +2,8 @@ use Rattle.std.proofs.Common.{refl}
 use Rattle.rules.specs.Boards.{part}
 use Rattle.rules.specs.Records.{after, occurrences_read, modules_read}
 use Rattle.rules.specs.Judging.{placed_at, units_at, occurrences_judged, modules_judged}
-use Rattle.run.specs.Examples.{Verdicts, PoweredRuns, ColdRuns, RefusedCalls, Kinds}
+use Rattle.run.specs.Examples.{WorkedExamples}
+use Rattle.run.specs.AllExamples.{Verdicts, PoweredRuns, ColdRuns, RefusedCalls, Kinds}
 use Rattle.run.proofs.examples_stand.Goals as goal
 
 verdicts : Verdicts
@@ -67,5 +68,24 @@ refused_calls =
 kinds : Kinds
 kinds = record { zero_and_unknown = refl; unknown_xor_itself = refl; one_with_mark_3_and_zero = refl }
 
+worked : WorkedExamples
+unfolding part after occurrences_read modules_read placed_at units_at occurrences_judged modules_judged
+worked =
+    record {
+      toggle_accepted = refl;
+      toggle_outputs = refl;
+      toggle_counts = refl;
+      tape_of_two = refl;
+      two_cells_accepted = refl;
+      two_cells_outputs = refl;
+      two_cells_moved = refl;
+      not_and_cell_accepted = refl;
+      not_and_cell_count = refl;
+      not_alone_accepted = refl;
+      not_alone_count = refl;
+      empty_top_accepted = refl;
+      empty_top_count = refl;
+    }
+
 pub returns : goal.returns
-returns c = record { verdicts = verdicts; powered_runs = powered_runs; cold_runs = cold_runs; refused_calls = refused_calls; kinds = kinds }
+returns c = record { worked = worked; all = record { verdicts = verdicts; powered_runs = powered_runs; cold_runs = cold_runs; refused_calls = refused_calls; kinds = kinds } }

@@ -12,8 +12,8 @@ records-requires g c =
     let t = c.tables-tables in
     record { right = t.ensures.right; number = some t.result t.ensures.right c.args.board.now t.ensures.file }
 
-pub open-top-requires : goal.open-top-requires
-open-top-requires g c =
+pub open_top-requires : goal.open_top-requires
+open_top-requires g c =
     let t = c.tables-tables in
     let f = fitting (design_in c.args.board.now) c.args.inputs.now c.args.cells.now c.args.outputs.now c.args.work.now c.args.levels.now c.fits.result c.fits.ensures c.if-not-fits.false in
     let w = c.records.ensures.wires in
@@ -31,9 +31,9 @@ loop-depth-init g c =
     let ls = c.args.levels.now in
     let f = fitting (design_in b) c.args.inputs.now c.args.cells.now c.args.outputs.now c.args.work.now c.args.levels.now c.fits.result c.fits.ensures c.if-not-fits.false in
     let w = c.records.ensures.wires in
-    let o = c.open-top.ensures in (
+    let o = c.open_top.ensures in (
       first_machine t.result t.ensures.right b t.ensures.file K ins cs,
-      first_state t.result t.ensures.right b t.ensures.file K ins cs c.open-top.new.work _ f.inputs_are f.cells_are o.given (λ k h l. o.rest k h (omega (arith, w))) (level_same ls 0 _ (omega (arith, f.many_levels)) ∙ c.new.ensures),
+      first_state t.result t.ensures.right b t.ensures.file K ins cs c.open_top.new.work _ f.inputs_are f.cells_are o.given (λ k h l. o.rest k h (omega (arith, w))) (level_same ls 0 _ (omega (arith, f.many_levels)) ∙ c.new.ensures),
       first_result t.result t.ensures.right b t.ensures.file K ins cs,
     )
 
@@ -67,8 +67,8 @@ loop-depth-preserved g c =
     let i = c.loop-depth.invariant in
     same_result K board i.0 (step_of K (design_in c.args.board.now) c.args.inputs.now c.args.cells.now) i.2 (c.turn-next.ensures i.0 (by_last K board c.loop-depth-test.true i.1))
 
-pub output-wires-requires : goal.output-wires-requires
-output-wires-requires g c =
+pub output_wires-requires : goal.output_wires-requires
+output_wires-requires g c =
     let t = c.tables-tables in
     record { right = t.ensures.right; number = some t.result t.ensures.right c.args.board.now t.ensures.file }
 
@@ -77,7 +77,7 @@ deliver-requires g c =
     let t = c.tables-tables in
     let b = c.args.board.now in
     let f = fitting (design_in b) c.args.inputs.now c.args.cells.now c.args.outputs.now c.args.work.now c.args.levels.now c.fits.result c.fits.ensures c.if-not-fits.false in
-    let o = c.output-wires.ensures in
+    let o = c.output_wires.ensures in
     let n = outputs_many t.result t.ensures.right b t.ensures.file in
     record {
       same = f.outputs_are ∙ n ∙ sym (ap length o);
@@ -95,5 +95,5 @@ returns g c =
     let i = c.loop-depth.invariant in
     record {
       fitting = sym c.if-not-fits.false ∙ c.fits.ensures;
-      stepping = halted_gives K (board_in c.tables-tables.result) i.0 i.1 c.loop-depth-test.false (design_in c.args.board.now) c.args.inputs.now c.args.cells.now i.2 (c.deliver.ensures ∙ ap (map (λ w. get_or c.loop-depth.work w K.low)) c.output-wires.ensures);
+      stepping = halted_gives K (board_in c.tables-tables.result) i.0 i.1 c.loop-depth-test.false (design_in c.args.board.now) c.args.inputs.now c.args.cells.now i.2 (c.deliver.ensures ∙ ap (map (λ w. get_or c.loop-depth.work w K.low)) c.output_wires.ensures);
     }

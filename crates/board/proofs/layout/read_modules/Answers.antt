@@ -10,11 +10,11 @@ pub loop-k-init : goal.loop-k-init
 unfolding module_at
 loop-k-init c = (refl, c.requires.0, refl, λ j h. absurd (omega arith), ap (modules_read c.args.file.now c.args.start) (omega arith))
 
-pub returns-in-err-module : goal.returns-in-err-module
-returns-in-err-module c =
-    let p = err_from_is_err_and c.from-residual.result c.from-residual.ensures.1 in
+pub returns-in_err-module : goal.returns-in_err-module
+returns-in_err-module c =
+    let p = err_from_is_err_and c.from_residual.result c.from_residual.ensures.1 in
     let f = c.args.file.now in
-    let o = modules_off f c.loop-k.at (c.args.count - c.loop-k.k) (c.args.count - (c.loop-k.k + 1)) c.in-err-module.field-0.0 (omega arith) c.in-err-module.ensures in
+    let o = modules_off f c.loop-k.at (c.args.count - c.loop-k.k) (c.args.count - (c.loop-k.k + 1)) c.in_err-module.field-0.0 (omega arith) c.in_err-module.ensures in
     rw (p.1, p.2) (sym c.loop-k.invariant.4 ∙ o)
 
 pub loop-k-preserved : goal.loop-k-preserved
@@ -22,7 +22,7 @@ loop-k-preserved c =
     let f = c.args.file.now in
     let at = c.loop-k.at in
     let i = c.loop-k.k in
-    let h = c.in-ok-module.ensures in
+    let h = c.in_ok-module.ensures in
     let q = c.loop-k.invariant.0 in
     let a = module_at_more f c.args.start i in
     let n = h.1.occurrences.end in

@@ -10,21 +10,21 @@ pub loop-i-init : goal.loop-i-init
 unfolding after
 loop-i-init c = (refl, c.requires.0, refl, λ j h. absurd (omega arith), λ j h. absurd (omega arith), ap (occurrences_read c.args.file.now c.args.start) (omega arith))
 
-pub returns-in-err-record : goal.returns-in-err-record
-returns-in-err-record c =
-    let p = err_from_is_err_and c.from-residual.result c.from-residual.ensures.1 in
+pub returns-in_err-record : goal.returns-in_err-record
+returns-in_err-record c =
+    let p = err_from_is_err_and c.from_residual.result c.from_residual.ensures.1 in
     let f = c.args.file.now in
-    let e = read_cut f c.loop-i.at 3 occurrence_shape c.in-err-record.field-0.0 c.in-err-record.ensures in
-    let o = occurrences_off f c.loop-i.at (c.args.count - c.loop-i.i) (c.args.count - (c.loop-i.i + 1)) c.in-err-record.field-0.0 (omega arith) e in
+    let e = read_cut f c.loop-i.at 3 occurrence_shape c.in_err-record.field-0.0 c.in_err-record.ensures in
+    let o = occurrences_off f c.loop-i.at (c.args.count - c.loop-i.i) (c.args.count - (c.loop-i.i + 1)) c.in_err-record.field-0.0 (omega arith) e in
     rw (p.1, p.2) (sym c.loop-i.invariant.5 ∙ o)
 
-pub returns-in-err-parse-occurrence : goal.returns-in-err-parse-occurrence
-returns-in-err-parse-occurrence c =
-    let p = err_from_is_err_and c.from-residual-in-err-parse-occurrence.result c.from-residual-in-err-parse-occurrence.ensures.1 in
+pub returns-in_err-parse_occurrence : goal.returns-in_err-parse_occurrence
+returns-in_err-parse_occurrence c =
+    let p = err_from_is_err_and c.from_residual-in_err-parse_occurrence.result c.from_residual-in_err-parse_occurrence.ensures.1 in
     let f = c.args.file.now in
-    let r = c.in-err-parse-occurrence.field-0.0 in
-    let h = c.in-ok-record.ensures in
-    let e = read_off f c.loop-i.at 3 occurrence_shape c.in-ok-record.record.body.now r h.1.body h.0 (subst (λ x. asked (occurrence_shape c.in-ok-record.record.body.now) (Shape x) ≡ refused r) h.1.place c.in-err-parse-occurrence.ensures) in
+    let r = c.in_err-parse_occurrence.field-0.0 in
+    let h = c.in_ok-record.ensures in
+    let e = read_off f c.loop-i.at 3 occurrence_shape c.in_ok-record.record.body.now r h.1.body h.0 (subst (λ x. asked (occurrence_shape c.in_ok-record.record.body.now) (Shape x) ≡ refused r) h.1.place c.in_err-parse_occurrence.ensures) in
     let o = occurrences_off f c.loop-i.at (c.args.count - c.loop-i.i) (c.args.count - (c.loop-i.i + 1)) r (omega arith) e in
     rw (p.1, p.2) (sym c.loop-i.invariant.5 ∙ o)
 
@@ -33,10 +33,10 @@ loop-i-preserved c =
     let f = c.args.file.now in
     let at = c.loop-i.at in
     let i = c.loop-i.i in
-    let h = c.in-ok-record.ensures in
+    let h = c.in_ok-record.ensures in
     let q = c.loop-i.invariant.0 in
-    let e = read_on f at 3 occurrence_shape c.in-ok-record.record.body.now h.1.body h.0 (subst (λ x. asked (occurrence_shape c.in-ok-record.record.body.now) (Shape x) ≡ accepted) h.1.place c.in-ok-parse-occurrence.ensures.0) in
-    let n : at + (4 + length c.in-ok-record.record.body.now) ≡ end_of f at = omega (arith, h.1.ends) in
+    let e = read_on f at 3 occurrence_shape c.in_ok-record.record.body.now h.1.body h.0 (subst (λ x. asked (occurrence_shape c.in_ok-record.record.body.now) (Shape x) ≡ accepted) h.1.place c.in_ok-parse_occurrence.ensures.0) in
+    let n : at + (4 + length c.in_ok-record.record.body.now) ≡ end_of f at = omega (arith, h.1.ends) in
     let a = after_more f c.args.start i in
     let o = occurrences_on f at (c.args.count - i) (c.args.count - (i + 1)) (omega arith) e in
     let lt : i < length c.loop-i.starts = omega arith in (

@@ -25,16 +25,16 @@ pub returns-in-Gate : goal.returns-in-Gate
 returns-in-Gate c =
     let below = seen_from (file_of c.args.b.now) (c.args.own + 1) in
     let e = ap Some (sym c.in-Gate.is) ∙ c.in-Some.ensures in
-    subst (Found below c.args.place (Ok c.gate-summary.result)) e (refl, c.gate-summary.ensures below)
+    subst (Found below c.args.place (Ok c.gate_summary.result)) e (refl, c.gate_summary.ensures below)
 
 pub returns-in-Cell : goal.returns-in-Cell
 returns-in-Cell c =
     let below = seen_from (file_of c.args.b.now) (c.args.own + 1) in
     let e = ap Some (sym c.in-Cell.is) ∙ c.in-Some.ensures in
-    subst (Found below c.args.place (Ok c.cell-summary.result)) e (refl, c.cell-summary.ensures below)
+    subst (Found below c.args.place (Ok c.cell_summary.result)) e (refl, c.cell_summary.ensures below)
 
 pub returns-in-Module : goal.returns-in-Module
 returns-in-Module c =
     let below = seen_from (file_of c.args.b.now) (c.args.own + 1) in
     let e = ap Some (sym c.in-Module.is) ∙ c.in-Some.ensures in
-    subst (Found below c.args.place c.module-summary.result) e (of_described below c.in-Module.number c.args.place c.module-summary.result c.module-summary.ensures)
+    subst (Found below c.args.place c.module_summary.result) e (of_described below c.in-Module.number c.args.place c.module_summary.result c.module_summary.ensures)

@@ -6,7 +6,7 @@ loop-i-preserved c =
     let i = c.loop-i.i in
     let lt : i < length c.loop-i.starts = omega (arith, c.loop-i.invariant.0) in (
       simp length-set c.loop-i.invariant.0,
-      below_more _ _ (λ k l. let ne : k ≢ i = omega arith in rw get_or-set_other (c.loop-i.invariant.1 k l)) (rw get_or-set_same c.cells-ahead.ensures),
+      below_more _ _ (λ k l. let ne : k ≢ i = omega arith in rw get_or-set_other (c.loop-i.invariant.1 k l)) (rw get_or-set_same c.cells_ahead.ensures),
     )
 
 pub returns : goal.returns

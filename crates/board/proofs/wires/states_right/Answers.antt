@@ -6,12 +6,12 @@ use Rattle.rules.specs.Judging.{times_due}
 use Rattle.board.proofs.Every.{every_no}
 use Rattle.board.proofs.wires.states_right.Goals as goal
 
-pub returns-then-not-stands-as-due : goal.returns-then-not-stands-as-due
-returns-then-not-stands-as-due c =
+pub returns-then-not-stands_as_due : goal.returns-then-not-stands_as_due
+returns-then-not-stands_as_due c =
     let xs = c.args.states.now in
     let f : ℕ → Bool = λ i. eqb (times i xs) (times_due (get_or c.args.sizes.now i 0)) in
-    let e : f c.loop-i.i ≡ false = sym c.stands-as-due.ensures ∙ c.if-not-stands-as-due.true in
-    let a : true ≡ all (λ w. ltb w c.args.count) xs = c.if-not-all-below.ensures in
+    let e : f c.loop-i.i ≡ false = sym c.stands_as_due.ensures ∙ c.if-not-stands_as_due.true in
+    let a : true ≡ all (λ w. ltb w c.args.count) xs = c.if-not-all_below.ensures in
     let n = every_no c.args.count f c.loop-i.i (omega arith) e in
     sym (ap (λ b. b && every c.args.count f) (sym a) ∙ n)
 
@@ -19,6 +19,6 @@ pub returns : goal.returns
 returns c =
     let xs = c.args.states.now in
     let f : ℕ → Bool = λ i. eqb (times i xs) (times_due (get_or c.args.sizes.now i 0)) in
-    let a : true ≡ all (λ w. ltb w c.args.count) xs = c.if-not-all-below.ensures in
+    let a : true ≡ all (λ w. ltb w c.args.count) xs = c.if-not-all_below.ensures in
     let y = each_every c.args.count f (λ j h. c.loop-i.invariant j (omega arith)) in
     sym (ap (λ b. b && every c.args.count f) (sym a) ∙ y)

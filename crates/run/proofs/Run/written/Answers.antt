@@ -2,8 +2,8 @@ use Rattle.std.proofs.Common.{arith, rules}
 use Rattle.run.proofs.Bounds.{few_outputs, small_place}
 use Rattle.run.proofs.Run.written.Goals as goal
 
-pub overflow-mul-result : goal.overflow-mul-result
-overflow-mul-result c = let few = few_outputs c.args.self.now.board.now in omega (arith, small_place c.args.self.now.cycle c.figures.result.outputs (omega arith) (omega arith))
+pub overflow_mul-result : goal.overflow_mul-result
+overflow_mul-result c = let few = few_outputs c.args.self.now.board.now in omega (arith, small_place c.args.self.now.cycle c.figures.result.outputs (omega arith) (omega arith))
 
 pub returns : goal.returns
 returns c =

@@ -3,14 +3,14 @@ use Rattle.std.proofs.lemmas.List.{get_or_read}
 use Rattle.run.proofs.Tapes.{seen_place}
 use Rattle.run.proofs.tape.output_of.Goals as goal
 
-pub overflow-mul-result : goal.overflow-mul-result
-overflow-mul-result g c = omega (arith, seen_place _ _ _ _ c.requires.seen c.requires.known)
+pub overflow_mul-result : goal.overflow_mul-result
+overflow_mul-result g c = omega (arith, seen_place _ _ _ _ c.requires.seen c.requires.known)
 
-pub overflow-add-result : goal.overflow-add-result
-overflow-add-result g c = omega (arith, seen_place _ _ _ _ c.requires.seen c.requires.known)
+pub overflow_add-result : goal.overflow_add-result
+overflow_add-result g c = omega (arith, seen_place _ _ _ _ c.requires.seen c.requires.known)
 
-pub offset-bounds-tape-cycle : goal.offset-bounds-tape-cycle
-offset-bounds-tape-cycle g c = omega (arith, seen_place _ _ _ _ c.requires.seen c.requires.known)
+pub offset_bounds-tape-cycle : goal.offset_bounds-tape-cycle
+offset_bounds-tape-cycle g c = omega (arith, seen_place _ _ _ _ c.requires.seen c.requires.known)
 
 pub bounds-tape-cycle : goal.bounds-tape-cycle
 bounds-tape-cycle g c = omega (arith, seen_place _ _ _ _ c.requires.seen c.requires.known)

@@ -4,12 +4,12 @@ use Rattle.transcript.specs.Lines.{values_of}
 use Rattle.transcript.proofs.Cutting.{is_none, values_stop, values_more, values_all}
 use Rattle.transcript.proofs.reading.parse_line.Goals as goal
 
-pub returns-then-not-all-values : goal.returns-then-not-all-values
-returns-then-not-all-values g c =
+pub returns-then-not-all_values : goal.returns-then-not-all_values
+returns-then-not-all_values g c =
     let K = g.K.Signal.kind in
     let u = g.K.WithUnknown.blank in
     let line = c.args.line.now in
-    let none = is_none (values_of K u line) (sym c.all-values.ensures ∙ c.if-not-all-values.true) in
+    let none = is_none (values_of K u line) (sym c.all_values.ensures ∙ c.if-not-all_values.true) in
     record {
       read = sym (ap (λ b. cond b (values_of K u line) None) (eq-eqb _ _ c.if-line-inputs.false) ∙ none);
       kept = λ _. refl;
@@ -21,7 +21,7 @@ unreachable-requires g c =
     let u = g.K.WithUnknown.blank in
     let line = c.args.line.now in
     let none = values_stop K u line c.loop-at.at c.loop-at-test.true _ (sym c.in-None.ensures) c.loop-at.invariant.1 in
-    both_ways _ (ap is_some none) (sym c.all-values.ensures ∙ c.if-not-all-values.false)
+    both_ways _ (ap is_some none) (sym c.all_values.ensures ∙ c.if-not-all_values.false)
 
 pub returns : goal.returns
 returns g c =

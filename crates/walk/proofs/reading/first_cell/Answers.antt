@@ -2,14 +2,14 @@ use Rattle.std.proofs.Common.{◌<◌, arith, rules}
 use Rattle.walk.proofs.Bytes.{range}
 use Rattle.walk.proofs.reading.first_cell.Goals as goal
 
-pub offset-bounds-tables-number : goal.offset-bounds-tables-number
-offset-bounds-tables-number c = let h : c.args.number < 64 = omega (arith, (range c.args.tables c.requires.right).few, c.requires.number) in search rules
+pub offset_bounds-tables-number : goal.offset_bounds-tables-number
+offset_bounds-tables-number c = let h : c.args.number < 64 = omega (arith, (range c.args.tables c.requires.right).few, c.requires.number) in search rules
 
 pub bounds-tables-number : goal.bounds-tables-number
 bounds-tables-number c = omega (arith, (range c.args.tables c.requires.right).few, c.requires.number)
 
-pub offset-bounds-tables-i : goal.offset-bounds-tables-i
-offset-bounds-tables-i c =
+pub offset_bounds-tables-i : goal.offset_bounds-tables-i
+offset_bounds-tables-i c =
     let h : c.args.i < 64 = omega (arith, ((range c.args.tables c.requires.right).each c.args.number c.requires.number).occurrences, c.requires.within) in
     search rules
 

@@ -2,8 +2,8 @@ use Rattle.std.proofs.Common.{◌≡◌, ◌<◌, true, is_some, sym, ap, ◌∙
 use Rattle.walk.proofs.Bytes.{range, known, occurrence_lies}
 use Rattle.walk.proofs.reading.read_occurrence.Goals as goal
 
-pub offset-bounds-records-i : goal.offset-bounds-records-i
-offset-bounds-records-i c =
+pub offset_bounds-records-i : goal.offset_bounds-records-i
+offset_bounds-records-i c =
     let h : c.args.i < 64 = omega (arith, ((range c.args.tables c.requires.right).each c.args.number c.requires.number).occurrences, c.requires.within) in
     search rules
 
@@ -22,18 +22,18 @@ bounds-tables-at-3 c = let h = (occurrence_lies c.args.tables c.requires.right c
 pub bounds-tables-at-4 : goal.bounds-tables-at-4
 bounds-tables-at-4 c = let h = (occurrence_lies c.args.tables c.requires.right c.args.number c.requires.number c.args.i c.requires.within _ (c.records.ensures.starts c.args.i c.requires.within)).within in search rules
 
-pub slice-bounds-result-end : goal.slice-bounds-result-end
-slice-bounds-result-end c = let h = (occurrence_lies c.args.tables c.requires.right c.args.number c.requires.number c.args.i c.requires.within _ (c.records.ensures.starts c.args.i c.requires.within)).within in search rules
+pub slice_bounds-result-end : goal.slice_bounds-result-end
+slice_bounds-result-end c = let h = (occurrence_lies c.args.tables c.requires.right c.args.number c.requires.number c.args.i c.requires.within _ (c.records.ensures.starts c.args.i c.requires.within)).within in search rules
 
-pub slice-bounds-result-end-2 : goal.slice-bounds-result-end-2
-slice-bounds-result-end-2 c = let h = (occurrence_lies c.args.tables c.requires.right c.args.number c.requires.number c.args.i c.requires.within _ (c.records.ensures.starts c.args.i c.requires.within)).within in search rules
+pub slice_bounds-result-end-2 : goal.slice_bounds-result-end-2
+slice_bounds-result-end-2 c = let h = (occurrence_lies c.args.tables c.requires.right c.args.number c.requires.number c.args.i c.requires.within _ (c.records.ensures.starts c.args.i c.requires.within)).within in search rules
 
 pub unwrap-part-requires : goal.unwrap-part-requires
 unwrap-part-requires c =
     let e = (occurrence_lies c.args.tables c.requires.right c.args.number c.requires.number c.args.i c.requires.within _ (c.records.ensures.starts c.args.i c.requires.within)).part_is in
-    ap is_some (c.of-reference.ensures ∙ e) ∙ known c.args.tables c.requires.right c.args.number c.requires.number c.args.i c.requires.within
+    ap is_some (c.of_reference.ensures ∙ e) ∙ known c.args.tables c.requires.right c.args.number c.requires.number c.args.i c.requires.within
 
 pub returns : goal.returns
 returns c =
     let l = occurrence_lies c.args.tables c.requires.right c.args.number c.requires.number c.args.i c.requires.within _ (c.records.ensures.starts c.args.i c.requires.within) in
-    record { part = sym l.part-is ∙ sym c.of-reference.ensures ∙ c.unwrap-part.ensures; ins = l.ins-are; outs = l.outs-are }
+    record { part = sym l.part_is ∙ sym c.of_reference.ensures ∙ c.unwrap-part.ensures; ins = l.ins_are; outs = l.outs_are }

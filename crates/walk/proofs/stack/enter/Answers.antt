@@ -5,8 +5,8 @@ use Rattle.walk.proofs.stack.enter.Goals as goal
 pub records-requires : goal.records-requires
 records-requires g c = record { right = c.requires.right; number = c.requires.enterable.number }
 
-pub overflow-add-start : goal.overflow-add-start
-overflow-add-start g c =
+pub overflow_add-start : goal.overflow_add-start
+overflow_add-start g c =
     let h : (level_at c.args.levels.now c.args.top).base + c.records.result.now.counts.wires ≤ length c.args.work.now = omega (arith, c.requires.enterable.fits, c.records.ensures.wires) in
     search rules
 

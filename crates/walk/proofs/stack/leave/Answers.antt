@@ -3,17 +3,17 @@ use Rattle.flat.specs.Windows.{writes}
 use Rattle.walk.specs.Levels.{level_at}
 use Rattle.walk.proofs.stack.leave.Goals as goal
 
-pub output-wires-outs-requires : goal.output-wires-outs-requires
-output-wires-outs-requires g c = record { right = c.requires.right; number = c.requires.leavable.number }
+pub output_wires-outs-requires : goal.output_wires-outs-requires
+output_wires-outs-requires g c = record { right = c.requires.right; number = c.requires.leavable.number }
 
-pub read-occurrence-requires : goal.read-occurrence-requires
-read-occurrence-requires g c = record { right = c.requires.right; number = c.requires.leavable.above; within = c.requires.leavable.place }
+pub read_occurrence-requires : goal.read_occurrence-requires
+read_occurrence-requires g c = record { right = c.requires.right; number = c.requires.leavable.above; within = c.requires.leavable.place }
 
-pub hand-up-requires : goal.hand-up-requires
-hand-up-requires g c =
+pub hand_up-requires : goal.hand_up-requires
+hand_up-requires g c =
     let v = c.requires.leavable in
-    let a = c.output-wires-outs.ensures in
-    let b = c.read-occurrence.ensures.outs in
+    let a = c.output_wires-outs.ensures in
+    let b = c.read_occurrence.ensures.outs in
     let base = (level_at c.args.levels.now c.args.top).base in
     let to = (level_at c.args.levels.now (c.args.top - 1)).base in
     record {
@@ -22,8 +22,8 @@ hand-up-requires g c =
       apart = λ j h. subst (λ (x : List ℕ). to + get_or x j 0 < base) (sym b) (v.apart j (subst (λ (x : List ℕ). j < length x) b h));
     }
 
-pub overflow-add-levels : goal.overflow-add-levels
-overflow-add-levels g c = let h = c.requires.leavable.small in search rules
+pub overflow_add-levels : goal.overflow_add-levels
+overflow_add-levels g c = let h = c.requires.leavable.small in search rules
 
 pub returns : goal.returns
 returns g c =
@@ -32,6 +32,6 @@ returns g c =
     let base = (level_at c.args.levels.now c.args.top).base in
     let to = (level_at c.args.levels.now (c.args.top - 1)).base in
     record {
-      work = c.hand-up.ensures ∙ ap₂ (λ (is os : List ℕ). writes K to is (map (λ w. get_or ws (base + w) K.low) os) ws) c.read-occurrence.ensures.outs c.output-wires-outs.ensures;
+      work = c.hand_up.ensures ∙ ap₂ (λ (is os : List ℕ). writes K to is (map (λ w. get_or ws (base + w) K.low) os) ws) c.read_occurrence.ensures.outs c.output_wires-outs.ensures;
       levels = refl;
     }

@@ -5,8 +5,8 @@ use Rattle.walk.specs.Levels.{level_at, placed, advanced}
 use Rattle.walk.proofs.Sim.{level_same}
 use Rattle.walk.proofs.stack.rise.Goals as goal
 
-pub overflow-add-levels : goal.overflow-add-levels
-overflow-add-levels c = let h = c.requires.small in search rules
+pub overflow_add-levels : goal.overflow_add-levels
+overflow_add-levels c = let h = c.requires.small in search rules
 
 pub returns : goal.returns
 returns c =

@@ -25,11 +25,11 @@ pub loop-place-init : goal.loop-place-init
 loop-place-init g c =
     (refl, λ M count s. (M, subst (λ y. State g.K.Signal.kind (board_in c.args.tables) c.args.cells.now c.args.work.now y (c.args.top + 1) count M) (sym (set-get_or c.args.levels.now c.args.top no_level)) s, refl, omega arith))
 
-pub read-occurrence-o-requires : goal.read-occurrence-o-requires
-read-occurrence-o-requires g c =
+pub read_occurrence-o-requires : goal.read_occurrence-o-requires
+read_occurrence-o-requires g c =
     let number = (level_at c.args.levels.now c.args.top).number in
-    let e = ap (λ (x : List ℕ). get_or x c.loop-place.place 0) c.state-list-states.ensures in
-    let w = Modules.entry_within (board_in c.args.tables) (λ k h. (Bytes.keeps c.args.tables c.requires.right k h).sound) number c.requires.number c.loop-place.place (let q : c.loop-place.place < length (module_of_level (board_in c.args.tables) (level_at c.args.levels.now c.args.top)).states = omega (arith, c.loop-place-test.true, ap length c.state-list-states.ensures) in q) in
+    let e = ap (λ (x : List ℕ). get_or x c.loop-place.place 0) c.state_list-states.ensures in
+    let w = Modules.entry_within (board_in c.args.tables) (λ k h. (Bytes.keeps c.args.tables c.requires.right k h).sound) number c.requires.number c.loop-place.place (let q : c.loop-place.place < length (module_of_level (board_in c.args.tables) (level_at c.args.levels.now c.args.top)).states = omega (arith, c.loop-place-test.true, ap length c.state_list-states.ensures) in q) in
     record { right = c.requires.right; number = c.requires.number; within = omega arith }
 
 pub bounds-o-0 : goal.bounds-o-0
@@ -37,26 +37,26 @@ bounds-o-0 g c =
     let t = c.requires.shown in
     let n = c.loop-place.invariant.1 t.0 t.1 t.2 in
     let m = module_of_level (board_in c.args.tables) (level_at c.args.levels.now c.args.top) in
-    let st = ap (λ (x : List ℕ). occurrence_no m (get_or x c.loop-place.place 0)) c.state-list-states.ensures in
-    let o = c.read-occurrence-o in
+    let st = ap (λ (x : List ℕ). occurrence_no m (get_or x c.loop-place.place 0)) c.state_list-states.ensures in
+    let o = c.read_occurrence-o in
     let ec : part (occurrence_no m (get_or m.states c.loop-place.place 0)) ≡ Some cell =
-    ap part (sym st) ∙ o.ensures.part ∙ ap Some (cell_left o.result.part c.in-default.not-Module (λ gt e. Modules.entry_no_gate (board_in c.args.tables) (λ k h. (Bytes.keeps c.args.tables c.requires.right k h).sound) (level_at c.args.levels.now c.args.top).number c.requires.number c.loop-place.place (let q : c.loop-place.place < length (module_of_level (board_in c.args.tables) (level_at c.args.levels.now c.args.top)).states = omega (arith, c.loop-place-test.true, ap length c.state-list-states.ensures) in q) gt (ap part (sym st) ∙ o.ensures.part ∙ ap Some e))) in
+    ap part (sym st) ∙ o.ensures.part ∙ ap Some (cell_left o.result.part c.in_default.not-Module (λ gt e. Modules.entry_no_gate (board_in c.args.tables) (λ k h. (Bytes.keeps c.args.tables c.requires.right k h).sound) (level_at c.args.levels.now c.args.top).number c.requires.number c.loop-place.place (let q : c.loop-place.place < length (module_of_level (board_in c.args.tables) (level_at c.args.levels.now c.args.top)).states = omega (arith, c.loop-place-test.true, ap length c.state_list-states.ensures) in q) gt (ap part (sym st) ∙ o.ensures.part ∙ ap Some e))) in
     let ins = o.ensures.ins ∙ ap (λ x. x.ins) st in
-    let h = Settles.lone_in g.K.Signal.kind c.args.tables c.requires.right c.loop-place.cells c.args.work.now c.args.levels.now c.args.top t.1 c.loop-place.place c.requires.many c.requires.size c.requires.level c.loop-place.cell c.requires.pass (let q : c.loop-place.place < length (module_of_level (board_in c.args.tables) (level_at c.args.levels.now c.args.top)).states = omega (arith, c.loop-place-test.true, ap length c.state-list-states.ensures) in q) n.0 n.1 ec in
+    let h = Settles.lone_in g.K.Signal.kind c.args.tables c.requires.right c.loop-place.cells c.args.work.now c.args.levels.now c.args.top t.1 c.loop-place.place c.requires.many c.requires.size c.requires.level c.loop-place.cell c.requires.pass (let q : c.loop-place.place < length (module_of_level (board_in c.args.tables) (level_at c.args.levels.now c.args.top)).states = omega (arith, c.loop-place-test.true, ap length c.state_list-states.ensures) in q) n.0 n.1 ec in
     let l : 0 < length o.result.ins.now = omega (arith, ap length ins, h.0) in
     search rules
 
-pub offset-bounds-work-base : goal.offset-bounds-work-base
-offset-bounds-work-base g c =
+pub offset_bounds-work-base : goal.offset_bounds-work-base
+offset_bounds-work-base g c =
     let t = c.requires.shown in
     let n = c.loop-place.invariant.1 t.0 t.1 t.2 in
     let m = module_of_level (board_in c.args.tables) (level_at c.args.levels.now c.args.top) in
-    let st = ap (λ (x : List ℕ). occurrence_no m (get_or x c.loop-place.place 0)) c.state-list-states.ensures in
-    let o = c.read-occurrence-o in
+    let st = ap (λ (x : List ℕ). occurrence_no m (get_or x c.loop-place.place 0)) c.state_list-states.ensures in
+    let o = c.read_occurrence-o in
     let ec : part (occurrence_no m (get_or m.states c.loop-place.place 0)) ≡ Some cell =
-    ap part (sym st) ∙ o.ensures.part ∙ ap Some (cell_left o.result.part c.in-default.not-Module (λ gt e. Modules.entry_no_gate (board_in c.args.tables) (λ k h. (Bytes.keeps c.args.tables c.requires.right k h).sound) (level_at c.args.levels.now c.args.top).number c.requires.number c.loop-place.place (let q : c.loop-place.place < length (module_of_level (board_in c.args.tables) (level_at c.args.levels.now c.args.top)).states = omega (arith, c.loop-place-test.true, ap length c.state-list-states.ensures) in q) gt (ap part (sym st) ∙ o.ensures.part ∙ ap Some e))) in
+    ap part (sym st) ∙ o.ensures.part ∙ ap Some (cell_left o.result.part c.in_default.not-Module (λ gt e. Modules.entry_no_gate (board_in c.args.tables) (λ k h. (Bytes.keeps c.args.tables c.requires.right k h).sound) (level_at c.args.levels.now c.args.top).number c.requires.number c.loop-place.place (let q : c.loop-place.place < length (module_of_level (board_in c.args.tables) (level_at c.args.levels.now c.args.top)).states = omega (arith, c.loop-place-test.true, ap length c.state_list-states.ensures) in q) gt (ap part (sym st) ∙ o.ensures.part ∙ ap Some e))) in
     let ins = o.ensures.ins ∙ ap (λ x. x.ins) st in
-    let h = Settles.lone_in g.K.Signal.kind c.args.tables c.requires.right c.loop-place.cells c.args.work.now c.args.levels.now c.args.top t.1 c.loop-place.place c.requires.many c.requires.size c.requires.level c.loop-place.cell c.requires.pass (let q : c.loop-place.place < length (module_of_level (board_in c.args.tables) (level_at c.args.levels.now c.args.top)).states = omega (arith, c.loop-place-test.true, ap length c.state-list-states.ensures) in q) n.0 n.1 ec in
+    let h = Settles.lone_in g.K.Signal.kind c.args.tables c.requires.right c.loop-place.cells c.args.work.now c.args.levels.now c.args.top t.1 c.loop-place.place c.requires.many c.requires.size c.requires.level c.loop-place.cell c.requires.pass (let q : c.loop-place.place < length (module_of_level (board_in c.args.tables) (level_at c.args.levels.now c.args.top)).states = omega (arith, c.loop-place-test.true, ap length c.state_list-states.ensures) in q) n.0 n.1 ec in
     let l : (level_at c.args.levels.now c.args.top).base + get_or o.result.ins.now 0 0 < length c.args.work.now = omega (arith, ap (λ (x : List ℕ). get_or x 0 0) ins, h.1) in
     omega arith
 
@@ -65,27 +65,27 @@ bounds-work-base g c =
     let t = c.requires.shown in
     let n = c.loop-place.invariant.1 t.0 t.1 t.2 in
     let m = module_of_level (board_in c.args.tables) (level_at c.args.levels.now c.args.top) in
-    let st = ap (λ (x : List ℕ). occurrence_no m (get_or x c.loop-place.place 0)) c.state-list-states.ensures in
-    let o = c.read-occurrence-o in
+    let st = ap (λ (x : List ℕ). occurrence_no m (get_or x c.loop-place.place 0)) c.state_list-states.ensures in
+    let o = c.read_occurrence-o in
     let ec : part (occurrence_no m (get_or m.states c.loop-place.place 0)) ≡ Some cell =
-    ap part (sym st) ∙ o.ensures.part ∙ ap Some (cell_left o.result.part c.in-default.not-Module (λ gt e. Modules.entry_no_gate (board_in c.args.tables) (λ k h. (Bytes.keeps c.args.tables c.requires.right k h).sound) (level_at c.args.levels.now c.args.top).number c.requires.number c.loop-place.place (let q : c.loop-place.place < length (module_of_level (board_in c.args.tables) (level_at c.args.levels.now c.args.top)).states = omega (arith, c.loop-place-test.true, ap length c.state-list-states.ensures) in q) gt (ap part (sym st) ∙ o.ensures.part ∙ ap Some e))) in
+    ap part (sym st) ∙ o.ensures.part ∙ ap Some (cell_left o.result.part c.in_default.not-Module (λ gt e. Modules.entry_no_gate (board_in c.args.tables) (λ k h. (Bytes.keeps c.args.tables c.requires.right k h).sound) (level_at c.args.levels.now c.args.top).number c.requires.number c.loop-place.place (let q : c.loop-place.place < length (module_of_level (board_in c.args.tables) (level_at c.args.levels.now c.args.top)).states = omega (arith, c.loop-place-test.true, ap length c.state_list-states.ensures) in q) gt (ap part (sym st) ∙ o.ensures.part ∙ ap Some e))) in
     let ins = o.ensures.ins ∙ ap (λ x. x.ins) st in
-    let h = Settles.lone_in g.K.Signal.kind c.args.tables c.requires.right c.loop-place.cells c.args.work.now c.args.levels.now c.args.top t.1 c.loop-place.place c.requires.many c.requires.size c.requires.level c.loop-place.cell c.requires.pass (let q : c.loop-place.place < length (module_of_level (board_in c.args.tables) (level_at c.args.levels.now c.args.top)).states = omega (arith, c.loop-place-test.true, ap length c.state-list-states.ensures) in q) n.0 n.1 ec in
+    let h = Settles.lone_in g.K.Signal.kind c.args.tables c.requires.right c.loop-place.cells c.args.work.now c.args.levels.now c.args.top t.1 c.loop-place.place c.requires.many c.requires.size c.requires.level c.loop-place.cell c.requires.pass (let q : c.loop-place.place < length (module_of_level (board_in c.args.tables) (level_at c.args.levels.now c.args.top)).states = omega (arith, c.loop-place-test.true, ap length c.state_list-states.ensures) in q) n.0 n.1 ec in
     let l : (level_at c.args.levels.now c.args.top).base + get_or o.result.ins.now 0 0 < length c.args.work.now = omega (arith, ap (λ (x : List ℕ). get_or x 0 0) ins, h.1) in
     l
 
-pub offset-bounds-cells-cell : goal.offset-bounds-cells-cell
-offset-bounds-cells-cell g c =
+pub offset_bounds-cells-cell : goal.offset_bounds-cells-cell
+offset_bounds-cells-cell g c =
     let t = c.requires.shown in
     let n = c.loop-place.invariant.1 t.0 t.1 t.2 in
     let m = module_of_level (board_in c.args.tables) (level_at c.args.levels.now c.args.top) in
-    let st = ap (λ (x : List ℕ). occurrence_no m (get_or x c.loop-place.place 0)) c.state-list-states.ensures in
-    let o = c.read-occurrence-o in
+    let st = ap (λ (x : List ℕ). occurrence_no m (get_or x c.loop-place.place 0)) c.state_list-states.ensures in
+    let o = c.read_occurrence-o in
     let ec : part (occurrence_no m (get_or m.states c.loop-place.place 0)) ≡ Some cell =
-    ap part (sym st) ∙ o.ensures.part ∙ ap Some (cell_left o.result.part c.in-default.not-Module (λ gt e. Modules.entry_no_gate (board_in c.args.tables) (λ k h. (Bytes.keeps c.args.tables c.requires.right k h).sound) (level_at c.args.levels.now c.args.top).number c.requires.number c.loop-place.place (let q : c.loop-place.place < length (module_of_level (board_in c.args.tables) (level_at c.args.levels.now c.args.top)).states = omega (arith, c.loop-place-test.true, ap length c.state-list-states.ensures) in q) gt (ap part (sym st) ∙ o.ensures.part ∙ ap Some e))) in
+    ap part (sym st) ∙ o.ensures.part ∙ ap Some (cell_left o.result.part c.in_default.not-Module (λ gt e. Modules.entry_no_gate (board_in c.args.tables) (λ k h. (Bytes.keeps c.args.tables c.requires.right k h).sound) (level_at c.args.levels.now c.args.top).number c.requires.number c.loop-place.place (let q : c.loop-place.place < length (module_of_level (board_in c.args.tables) (level_at c.args.levels.now c.args.top)).states = omega (arith, c.loop-place-test.true, ap length c.state_list-states.ensures) in q) gt (ap part (sym st) ∙ o.ensures.part ∙ ap Some e))) in
     let ins = o.ensures.ins ∙ ap (λ x. x.ins) st in
-    let h = Settles.lone_in g.K.Signal.kind c.args.tables c.requires.right c.loop-place.cells c.args.work.now c.args.levels.now c.args.top t.1 c.loop-place.place c.requires.many c.requires.size c.requires.level c.loop-place.cell c.requires.pass (let q : c.loop-place.place < length (module_of_level (board_in c.args.tables) (level_at c.args.levels.now c.args.top)).states = omega (arith, c.loop-place-test.true, ap length c.state-list-states.ensures) in q) n.0 n.1 ec in
-    let l = h.2 in
+    let h = Settles.lone_in g.K.Signal.kind c.args.tables c.requires.right c.loop-place.cells c.args.work.now c.args.levels.now c.args.top t.1 c.loop-place.place c.requires.many c.requires.size c.requires.level c.loop-place.cell c.requires.pass (let q : c.loop-place.place < length (module_of_level (board_in c.args.tables) (level_at c.args.levels.now c.args.top)).states = omega (arith, c.loop-place-test.true, ap length c.state_list-states.ensures) in q) n.0 n.1 ec in
+    let l : c.loop-place.cell < length c.args.cells.now = omega (arith, h.2, c.loop-place.auto.cells) in
     search rules
 
 pub bounds-cells-cell : goal.bounds-cells-cell
@@ -93,35 +93,35 @@ bounds-cells-cell g c =
     let t = c.requires.shown in
     let n = c.loop-place.invariant.1 t.0 t.1 t.2 in
     let m = module_of_level (board_in c.args.tables) (level_at c.args.levels.now c.args.top) in
-    let st = ap (λ (x : List ℕ). occurrence_no m (get_or x c.loop-place.place 0)) c.state-list-states.ensures in
-    let o = c.read-occurrence-o in
+    let st = ap (λ (x : List ℕ). occurrence_no m (get_or x c.loop-place.place 0)) c.state_list-states.ensures in
+    let o = c.read_occurrence-o in
     let ec : part (occurrence_no m (get_or m.states c.loop-place.place 0)) ≡ Some cell =
-    ap part (sym st) ∙ o.ensures.part ∙ ap Some (cell_left o.result.part c.in-default.not-Module (λ gt e. Modules.entry_no_gate (board_in c.args.tables) (λ k h. (Bytes.keeps c.args.tables c.requires.right k h).sound) (level_at c.args.levels.now c.args.top).number c.requires.number c.loop-place.place (let q : c.loop-place.place < length (module_of_level (board_in c.args.tables) (level_at c.args.levels.now c.args.top)).states = omega (arith, c.loop-place-test.true, ap length c.state-list-states.ensures) in q) gt (ap part (sym st) ∙ o.ensures.part ∙ ap Some e))) in
+    ap part (sym st) ∙ o.ensures.part ∙ ap Some (cell_left o.result.part c.in_default.not-Module (λ gt e. Modules.entry_no_gate (board_in c.args.tables) (λ k h. (Bytes.keeps c.args.tables c.requires.right k h).sound) (level_at c.args.levels.now c.args.top).number c.requires.number c.loop-place.place (let q : c.loop-place.place < length (module_of_level (board_in c.args.tables) (level_at c.args.levels.now c.args.top)).states = omega (arith, c.loop-place-test.true, ap length c.state_list-states.ensures) in q) gt (ap part (sym st) ∙ o.ensures.part ∙ ap Some e))) in
     let ins = o.ensures.ins ∙ ap (λ x. x.ins) st in
-    let h = Settles.lone_in g.K.Signal.kind c.args.tables c.requires.right c.loop-place.cells c.args.work.now c.args.levels.now c.args.top t.1 c.loop-place.place c.requires.many c.requires.size c.requires.level c.loop-place.cell c.requires.pass (let q : c.loop-place.place < length (module_of_level (board_in c.args.tables) (level_at c.args.levels.now c.args.top)).states = omega (arith, c.loop-place-test.true, ap length c.state-list-states.ensures) in q) n.0 n.1 ec in
+    let h = Settles.lone_in g.K.Signal.kind c.args.tables c.requires.right c.loop-place.cells c.args.work.now c.args.levels.now c.args.top t.1 c.loop-place.place c.requires.many c.requires.size c.requires.level c.loop-place.cell c.requires.pass (let q : c.loop-place.place < length (module_of_level (board_in c.args.tables) (level_at c.args.levels.now c.args.top)).states = omega (arith, c.loop-place-test.true, ap length c.state_list-states.ensures) in q) n.0 n.1 ec in
     h.2
 
-pub overflow-add-cell : goal.overflow-add-cell
-overflow-add-cell g c =
+pub overflow_add-cell : goal.overflow_add-cell
+overflow_add-cell g c =
     let t = c.requires.shown in
     let n = c.loop-place.invariant.1 t.0 t.1 t.2 in
     let m = module_of_level (board_in c.args.tables) (level_at c.args.levels.now c.args.top) in
-    let st = ap (λ (x : List ℕ). occurrence_no m (get_or x c.loop-place.place 0)) c.state-list-states.ensures in
-    let o = c.read-occurrence-o in
+    let st = ap (λ (x : List ℕ). occurrence_no m (get_or x c.loop-place.place 0)) c.state_list-states.ensures in
+    let o = c.read_occurrence-o in
     let ec : part (occurrence_no m (get_or m.states c.loop-place.place 0)) ≡ Some cell =
-    ap part (sym st) ∙ o.ensures.part ∙ ap Some (cell_left o.result.part c.in-default.not-Module (λ gt e. Modules.entry_no_gate (board_in c.args.tables) (λ k h. (Bytes.keeps c.args.tables c.requires.right k h).sound) (level_at c.args.levels.now c.args.top).number c.requires.number c.loop-place.place (let q : c.loop-place.place < length (module_of_level (board_in c.args.tables) (level_at c.args.levels.now c.args.top)).states = omega (arith, c.loop-place-test.true, ap length c.state-list-states.ensures) in q) gt (ap part (sym st) ∙ o.ensures.part ∙ ap Some e))) in
+    ap part (sym st) ∙ o.ensures.part ∙ ap Some (cell_left o.result.part c.in_default.not-Module (λ gt e. Modules.entry_no_gate (board_in c.args.tables) (λ k h. (Bytes.keeps c.args.tables c.requires.right k h).sound) (level_at c.args.levels.now c.args.top).number c.requires.number c.loop-place.place (let q : c.loop-place.place < length (module_of_level (board_in c.args.tables) (level_at c.args.levels.now c.args.top)).states = omega (arith, c.loop-place-test.true, ap length c.state_list-states.ensures) in q) gt (ap part (sym st) ∙ o.ensures.part ∙ ap Some e))) in
     let ins = o.ensures.ins ∙ ap (λ x. x.ins) st in
-    let h = Settles.lone_in g.K.Signal.kind c.args.tables c.requires.right c.loop-place.cells c.args.work.now c.args.levels.now c.args.top t.1 c.loop-place.place c.requires.many c.requires.size c.requires.level c.loop-place.cell c.requires.pass (let q : c.loop-place.place < length (module_of_level (board_in c.args.tables) (level_at c.args.levels.now c.args.top)).states = omega (arith, c.loop-place-test.true, ap length c.state-list-states.ensures) in q) n.0 n.1 ec in
+    let h = Settles.lone_in g.K.Signal.kind c.args.tables c.requires.right c.loop-place.cells c.args.work.now c.args.levels.now c.args.top t.1 c.loop-place.place c.requires.many c.requires.size c.requires.level c.loop-place.cell c.requires.pass (let q : c.loop-place.place < length (module_of_level (board_in c.args.tables) (level_at c.args.levels.now c.args.top)).states = omega (arith, c.loop-place-test.true, ap length c.state_list-states.ensures) in q) n.0 n.1 ec in
     let l = h.2 in
     search rules
 
 pub loop-place-preserved : goal.loop-place-preserved
 loop-place-preserved g c =
     let m = module_of_level (board_in c.args.tables) (level_at c.args.levels.now c.args.top) in
-    let st = ap (λ (x : List ℕ). occurrence_no m (get_or x c.loop-place.place 0)) c.state-list-states.ensures in
-    let o = c.read-occurrence-o in
+    let st = ap (λ (x : List ℕ). occurrence_no m (get_or x c.loop-place.place 0)) c.state_list-states.ensures in
+    let o = c.read_occurrence-o in
     let ec : part (occurrence_no m (get_or m.states c.loop-place.place 0)) ≡ Some cell =
-    ap part (sym st) ∙ o.ensures.part ∙ ap Some (cell_left o.result.part c.in-default.not-Module (λ gt e. Modules.entry_no_gate (board_in c.args.tables) (λ k h. (Bytes.keeps c.args.tables c.requires.right k h).sound) (level_at c.args.levels.now c.args.top).number c.requires.number c.loop-place.place (let q : c.loop-place.place < length (module_of_level (board_in c.args.tables) (level_at c.args.levels.now c.args.top)).states = omega (arith, c.loop-place-test.true, ap length c.state-list-states.ensures) in q) gt (ap part (sym st) ∙ o.ensures.part ∙ ap Some e))) in
+    ap part (sym st) ∙ o.ensures.part ∙ ap Some (cell_left o.result.part c.in_default.not-Module (λ gt e. Modules.entry_no_gate (board_in c.args.tables) (λ k h. (Bytes.keeps c.args.tables c.requires.right k h).sound) (level_at c.args.levels.now c.args.top).number c.requires.number c.loop-place.place (let q : c.loop-place.place < length (module_of_level (board_in c.args.tables) (level_at c.args.levels.now c.args.top)).states = omega (arith, c.loop-place-test.true, ap length c.state_list-states.ensures) in q) gt (ap part (sym st) ∙ o.ensures.part ∙ ap Some e))) in
     let ins = o.ensures.ins ∙ ap (λ x. x.ins) st in (
       c.loop-place.invariant.0,
       λ M count s.
@@ -129,11 +129,11 @@ loop-place-preserved g c =
           let n = c.loop-place.invariant.1 M count s in
           let b = (level_at c.args.levels.now c.args.top).base in
           let ws = c.args.work.now in
-          let h = Settles.lone_in g.K.Signal.kind c.args.tables c.requires.right c.loop-place.cells c.args.work.now c.args.levels.now c.args.top count c.loop-place.place c.requires.many c.requires.size c.requires.level c.loop-place.cell c.requires.pass (let q : c.loop-place.place < length (module_of_level (board_in c.args.tables) (level_at c.args.levels.now c.args.top)).states = omega (arith, c.loop-place-test.true, ap length c.state-list-states.ensures) in q) n.0 n.1 ec in
+          let h = Settles.lone_in g.K.Signal.kind c.args.tables c.requires.right c.loop-place.cells c.args.work.now c.args.levels.now c.args.top count c.loop-place.place c.requires.many c.requires.size c.requires.level c.loop-place.cell c.requires.pass (let q : c.loop-place.place < length (module_of_level (board_in c.args.tables) (level_at c.args.levels.now c.args.top)).states = omega (arith, c.loop-place-test.true, ap length c.state_list-states.ensures) in q) n.0 n.1 ec in
           let z = ap (λ (x : List ℕ). get_or x 0 0) ins in
           let l : b + get_or o.result.ins.now 0 0 < length ws = omega (arith, z, h.1) in
           let v = get_or_read ws (b + get_or o.result.ins.now 0 0) c.index-work-base.result l c.index-work-base.is K.low ∙ ap (λ k. get_or ws (b + k) K.low) z in
-          Settles.store_later g.K.Signal.kind c.args.tables c.requires.right c.loop-place.cells c.args.work.now c.args.levels.now c.args.top count c.loop-place.place c.requires.many c.requires.size c.requires.level c.loop-place.cell c.requires.pass (let q : c.loop-place.place < length (module_of_level (board_in c.args.tables) (level_at c.args.levels.now c.args.top)).states = omega (arith, c.loop-place-test.true, ap length c.state-list-states.ensures) in q) n.0 n.1 M n.2 n.3 ec c.index-work-base.result v,
+          Settles.store_later g.K.Signal.kind c.args.tables c.requires.right c.loop-place.cells c.args.work.now c.args.levels.now c.args.top count c.loop-place.place c.requires.many c.requires.size c.requires.level c.loop-place.cell c.requires.pass (let q : c.loop-place.place < length (module_of_level (board_in c.args.tables) (level_at c.args.levels.now c.args.top)).states = omega (arith, c.loop-place-test.true, ap length c.state_list-states.ensures) in q) n.0 n.1 M n.2 n.3 ec c.index-work-base.result v,
     )
 
 pub returns-in-Module : goal.returns-in-Module
@@ -147,9 +147,9 @@ returns-in-Module g c =
     let e = c.loop-place.invariant.0 in
     let m = module_of_level board (level_at ls top) in
     let at = twice_at L ls e top place from c.requires.level in
-    let st = ap (λ (x : List ℕ). occurrence_no m (get_or x place 0)) c.state-list-states.ensures in
-    let o = c.read-occurrence-o in
-    let w : place < length m.states = omega (arith, c.loop-place-test.true, ap length c.state-list-states.ensures) in
+    let st = ap (λ (x : List ℕ). occurrence_no m (get_or x place 0)) c.state_list-states.ensures in
+    let o = c.read_occurrence-o in
+    let w : place < length m.states = omega (arith, c.loop-place-test.true, ap length c.state_list-states.ensures) in
     record {
       levels = twice_is L ls e top place from c.requires.level ∙ sym (ap (λ (z : Level). set ls top (advanced (level_at ls top) z.place z.cell)) at);
       stop =
@@ -182,7 +182,7 @@ returns g c =
       levels = twice_is L ls e top place from c.requires.level ∙ sym (ap (λ (z : Level). set ls top (advanced (level_at ls top) z.place z.cell)) at);
       stop =
           subst (λ (z : Level). StopSecond board z None) (sym at)
-          (let w : length m.states ≤ place = omega (arith, c.loop-place-test.false, ap length c.state-list-states.ensures) in w);
+          (let w : length m.states ≤ place = omega (arith, c.loop-place-test.false, ap length c.state_list-states.ensures) in w);
       runs = λ M count s.
           let n = c.loop-place.invariant.1 M count s in
           (n.0, subst (λ y. State g.K.Signal.kind board c.loop-place.cells c.args.work.now y (top + 1) count n.0) (sym (twice_is L ls e top place from c.requires.level)) n.1, n.2, n.3);

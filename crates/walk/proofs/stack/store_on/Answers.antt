@@ -12,7 +12,7 @@ enter-requires g c =
     let e = c.in-Some.ensures in
     let ls' = c.store.new.levels in
     let many : 8 ≤ length ls' = omega (arith, c.requires.many, c.store.auto.levels) in
-    let pass : (level_at ls' top).pass ≡ Storing = Goes.advanced-pass c.args.levels.now ls' top (level_at ls' top).place (level_at ls' top).cell c.requires.level e.levels ∙ c.requires.pass in
+    let pass : (level_at ls' top).pass ≡ Storing = Goes.advanced_pass c.args.levels.now ls' top (level_at ls' top).place (level_at ls' top).cell c.requires.level e.levels ∙ c.requires.pass in
     let m = c.requires.shown in
     let l = e.runs m.0 m.1 m.2 in
     record {
@@ -29,7 +29,7 @@ returns-in-Some g c =
     let e = c.in-Some.ensures in
     let ls' = c.store.new.levels in
     let many : 8 ≤ length ls' = omega (arith, c.requires.many, c.store.auto.levels) in
-    let pass : (level_at ls' top).pass ≡ Storing = Goes.advanced-pass c.args.levels.now ls' top (level_at ls' top).place (level_at ls' top).cell c.requires.level e.levels ∙ c.requires.pass in
+    let pass : (level_at ls' top).pass ≡ Storing = Goes.advanced_pass c.args.levels.now ls' top (level_at ls' top).place (level_at ls' top).cell c.requires.level e.levels ∙ c.requires.pass in
     λ M n s. Goes.again_on K t c.requires.right c.store.new.cells c.args.work.now ls' top n many c.requires.size M (e.runs M n s) pass c.in-Some.child e.stop c.enter.new.work c.enter.new.levels c.enter.ensures.work c.enter.ensures.levels
 
 pub rise-requires : goal.rise-requires
@@ -37,10 +37,10 @@ rise-requires g c =
     let K = g.K.Signal.kind in
     let t = c.args.tables in
     let top = c.args.top in
-    let e = c.in-default.ensures in
+    let e = c.in_default.ensures in
     let ls' = c.store.new.levels in
     let many : 8 ≤ length ls' = omega (arith, c.requires.many, c.store.auto.levels) in
-    let pass : (level_at ls' top).pass ≡ Storing = Goes.advanced-pass c.args.levels.now ls' top (level_at ls' top).place (level_at ls' top).cell c.requires.level e.levels ∙ c.requires.pass in
+    let pass : (level_at ls' top).pass ≡ Storing = Goes.advanced_pass c.args.levels.now ls' top (level_at ls' top).place (level_at ls' top).cell c.requires.level e.levels ∙ c.requires.pass in
     let m = c.requires.shown in
     record {
       level = omega (arith, c.requires.level, c.store.auto.levels);
@@ -53,10 +53,10 @@ returns-then-top-gt0 g c =
     let K = g.K.Signal.kind in
     let t = c.args.tables in
     let top = c.args.top in
-    let e = c.in-default.ensures in
+    let e = c.in_default.ensures in
     let ls' = c.store.new.levels in
     let many : 8 ≤ length ls' = omega (arith, c.requires.many, c.store.auto.levels) in
-    let pass : (level_at ls' top).pass ≡ Storing = Goes.advanced-pass c.args.levels.now ls' top (level_at ls' top).place (level_at ls' top).cell c.requires.level e.levels ∙ c.requires.pass in
+    let pass : (level_at ls' top).pass ≡ Storing = Goes.advanced_pass c.args.levels.now ls' top (level_at ls' top).place (level_at ls' top).cell c.requires.level e.levels ∙ c.requires.pass in
     λ M n s. Goes.risen_on K t c.requires.right c.store.new.cells c.args.work.now ls' top n many c.requires.size M (e.runs M n s) pass e.stop c.if-top-gt0.true c.rise.new.levels c.rise.ensures
 
 pub returns-else-top-gt0 : goal.returns-else-top-gt0
@@ -64,8 +64,8 @@ returns-else-top-gt0 g c =
     let K = g.K.Signal.kind in
     let t = c.args.tables in
     let top = c.args.top in
-    let e = c.in-default.ensures in
+    let e = c.in_default.ensures in
     let ls' = c.store.new.levels in
     let many : 8 ≤ length ls' = omega (arith, c.requires.many, c.store.auto.levels) in
-    let pass : (level_at ls' top).pass ≡ Storing = Goes.advanced-pass c.args.levels.now ls' top (level_at ls' top).place (level_at ls' top).cell c.requires.level e.levels ∙ c.requires.pass in
+    let pass : (level_at ls' top).pass ≡ Storing = Goes.advanced_pass c.args.levels.now ls' top (level_at ls' top).place (level_at ls' top).cell c.requires.level e.levels ∙ c.requires.pass in
     λ M n s. Goes.halted_on K t c.requires.right c.store.new.cells c.args.work.now ls' top n many c.requires.size M (e.runs M n s) pass e.stop c.if-top-gt0.false

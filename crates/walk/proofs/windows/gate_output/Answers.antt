@@ -6,4 +6,4 @@ pub returns : goal.returns
 returns g c =
     let K = g.K.Signal.kind in
     let vs = map (λ w. get_or c.args.wires.now w K.low) c.args.ins.now in
-    three_by K c.args.gate vs c.evaluate.result c.input-value-a.result c.input-value-b.result c.input-value-c.result c.evaluate.ensures.value c.input-value-a.ensures c.input-value-b.ensures c.input-value-c.ensures
+    three_by K c.args.gate vs c.evaluate.result c.input_value-a.result c.input_value-b.result c.input_value-c.result c.evaluate.ensures.value c.input_value-a.ensures c.input_value-b.ensures c.input_value-c.ensures

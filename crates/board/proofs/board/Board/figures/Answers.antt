@@ -16,7 +16,7 @@ returns c =
     let f = b.file.now in
     let acc = c.args.self.now.accepted in
     let found : Accepted b → Described (top (board_of f)) _ = λ a. a.judged.summaries 0 (omega arith) a.judged.some in
-    let q = c.figures-of.ensures in
+    let q = c.figures_of.ensures in
     record {
       modules = q.modules_is ∙ ∥∥₁_elim acc (ℕ_set _ _) (λ a. a.judged.count ∙ sym (length-map (units_of f) module_of ∙ length_units f (end_of f 0) (module_count f)));
       inputs = q.inputs ∙ ∥∥₁_elim acc (ℕ_set _ _) (λ a. (found a).inputs);

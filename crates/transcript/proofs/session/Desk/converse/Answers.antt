@@ -10,19 +10,19 @@ pub loop-rest-smaller : goal.loop-rest-smaller
 loop-rest-smaller g c =
     let rest = c.loop-rest.rest.now in
     let some : 0 < length rest = omega (arith, eqb_apart (length rest) 0 (sym c.loop-rest-test.ensures)) in
-    omega (arith, after_falls rest some, ap length c.cut-line-cut.ensures.rest)
+    omega (arith, after_falls rest some, ap length c.cut_line-cut.ensures.rest)
 
 pub loop-rest-preserved : goal.loop-rest-preserved
 loop-rest-preserved g c =
     let rest = c.loop-rest.rest.now in
     let some : 0 < length rest = omega (arith, eqb_apart (length rest) 0 (sym c.loop-rest-test.ensures)) in
-    let a = c.in-ok-answer.ensures in
-    (a.ready, a.design ∙ c.loop-rest.invariant.1, answers_more g.K.Signal.kind g.K.WithUnknown.blank c.loop-rest.self rest c.cut-line-cut.result.line.now c.cut-line-cut.result.rest.now c.answer.new.self (string_bytes c.loop-rest.text) (string_bytes c.answer.new.text) some c.cut-line-cut.ensures.line c.cut-line-cut.ensures.rest a ∙ c.loop-rest.invariant.2)
+    let a = c.in_ok-answer.ensures in
+    (a.ready, a.design ∙ c.loop-rest.invariant.1, answers_more g.K.Signal.kind g.K.WithUnknown.blank c.loop-rest.self rest c.cut_line-cut.result.line.now c.cut_line-cut.result.rest.now c.answer.new.self (string_bytes c.loop-rest.text) (string_bytes c.answer.new.text) some c.cut_line-cut.ensures.line c.cut_line-cut.ensures.rest a ∙ c.loop-rest.invariant.2)
 
 pub returns : goal.returns
 returns g c =
     let t = string_bytes c.loop-rest.text in
-    let text = string_bytes c.push-ended-line.new.text in
+    let text = string_bytes c.push_ended_line.new.text in
     let s = c.loop-rest.self in
     let end = answers_none g.K.Signal.kind g.K.WithUnknown.blank s c.loop-rest.rest.now (true-eqb _ _ c.loop-rest-test.ensures) c.loop-rest.invariant.0 in
-    IfOk-weaker c.push-ended-line.result (λ _. text ≡ t ++ ended_line s.steps) _ (λ _ h. h ∙ ap (λ bs. t ++ bs) (sym end) ∙ c.loop-rest.invariant.2) c.push-ended-line.ensures
+    IfOk-weaker c.push_ended_line.result (λ _. text ≡ t ++ ended_line s.steps) _ (λ _ h. h ∙ ap (λ bs. t ++ bs) (sym end) ∙ c.loop-rest.invariant.2) c.push_ended_line.ensures

@@ -11,9 +11,9 @@ returns g c =
     let K = g.K.Signal.kind in
     let u = g.K.WithUnknown.blank in
     let s = c.args.self.now in
-    let vs = c.parse-line.new.inputs in
+    let vs = c.parse_line.new.inputs in
     let line = c.args.line.now in
-    let long = c.as-mut-slice.ensures.len ∙ c.requires.lent.inputs in
-    let read : Some vs ≡ inputs_of K u (in_count (design_of s)) line = c.if-not-parse-line.ensures.read ∙ ap (λ n. inputs_of K u n line) long in
-    let ins_is = c.as-slice.ensures.value ∙ with_items_is s.inputs vs (c.parse-line.auto.inputs ∙ c.as-mut-slice.ensures.len) in
-    told_step K u s line c.requires vs c.as-slice.result.now c.as-mut-slice-2.result.now c.as-mut-slice-3.result.now c.as-mut-slice-4.result.now c.as-mut-slice-5.result.now read ins_is c.as-mut-slice-2.ensures.value c.as-mut-slice-3.ensures.value c.as-mut-slice-4.ensures.value c.as-mut-slice-5.ensures.value c.step.new.self c.step.new.cells c.step.new.tape c.step.new.work c.step.new.levels c.step.auto.cells c.step.auto.tape c.step.ensures.board c.step.result c.step.ensures.step
+    let long = c.as_mut_slice.ensures.len ∙ c.requires.lent.inputs in
+    let read : Some vs ≡ inputs_of K u (in_count (design_of s)) line = c.if-not-parse_line.ensures.read ∙ ap (λ n. inputs_of K u n line) long in
+    let ins_is = c.as_slice.ensures.value ∙ with_items_is s.inputs vs (c.parse_line.auto.inputs ∙ c.as_mut_slice.ensures.len) in
+    told_step K u s line c.requires vs c.as_slice.result.now c.as_mut_slice-2.result.now c.as_mut_slice-3.result.now c.as_mut_slice-4.result.now c.as_mut_slice-5.result.now read ins_is c.as_mut_slice-2.ensures.value c.as_mut_slice-3.ensures.value c.as_mut_slice-4.ensures.value c.as_mut_slice-5.ensures.value c.step.new.self c.step.new.cells c.step.new.tape c.step.new.work c.step.new.levels c.step.auto.cells c.step.auto.tape c.step.ensures.board c.step.result c.step.ensures.step
