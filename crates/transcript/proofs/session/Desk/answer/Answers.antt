@@ -4,9 +4,9 @@ use Rattle.transcript.specs.Printed.{refused_line}
 use Rattle.transcript.proofs.Desking.{answered_step, answered_refusal}
 use Rattle.transcript.proofs.session.Desk.answer.Goals as goal
 
-pub returns-in_ok-push_step_line : goal.returns-in_ok-push_step_line
-returns-in_ok-push_step_line g c =
-    answered_step g.K.Signal.kind g.K.WithUnknown.blank c.args.self.now c.args.line.now c.requires c.step.new.self c.in-Ok.count c.in-Ok.ensures c.from.result c.from.ensures c.as_slice.result.now c.as_slice.ensures.value (string_bytes c.args.text.now) (string_bytes c.push_step_line.new.text) c.in_ok-push_step_line.ensures
+pub returns-in_ok-push_step_line-in-Ok : goal.returns-in_ok-push_step_line-in-Ok
+returns-in_ok-push_step_line-in-Ok g c =
+    answered_step g.K.Signal.kind g.K.WithUnknown.blank c.args.self.now c.args.line.now c.requires c.step.new.self c.in-Ok.count c.in-Ok.ensures c.from.result c.from.ensures c.as_slice.result.now c.as_slice.ensures.value (string_bytes c.args.text.now) (string_bytes c.push_step_line.new.text) c.in_ok-push_step_line-in-Ok.ensures
 
 pub returns-in-Err : goal.returns-in-Err
 returns-in-Err g c =
