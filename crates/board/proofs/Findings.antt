@@ -5,7 +5,7 @@ use Rattle.std.proofs.lemmas.Bool.{and_parts, le-leb, lt-leb, leb-true, leb-fals
 use Rattle.rules.specs.declared.refusal.Refusal.{Refusal}
 use Rattle.rules.specs.declared.refusal.Refusal.TheVariants.{Wire, Drive, State, Size}
 use Rattle.rules.specs.Refusals.{Verdict, accepted, refused, ◌then◌, asked}
-use Rattle.rules.specs.Boards.{Design, node, cells, cells_at, ahead, depth, places}
+use Rattle.rules.specs.Boards.{Design, node, cells, cells_at, ahead, places}
 use Rattle.rules.specs.Wires.{all, any, every, picked, drive_all, times, reached, through}
 use Rattle.rules.specs.Records.{end_of, uses}
 use Rattle.rules.specs.Judging.{unit_at, module_of, occurrences_of, times_due, occurrences_judged, module_judged, states_right, size_right}

@@ -1,5 +1,5 @@
 -- The tables of an accepted board, out of the truncation: all that they owe are equations between numbers.
-use Rattle.std.proofs.Common.{◌≡◌, ℕ, zero, suc, ◌+◌, ◌<◌, ◌≤◌, List, [], ◌∷◌, map, length, get_or, take, drop, sym, refl, ap, ◌∙◌, ap₂, subst₂, arith, length-drop}
+use Rattle.std.proofs.Common.{◌≡◌, ℕ, zero, suc, ◌+◌, ◌<◌, List, [], length, get_or, drop, sym, refl, ap, ◌∙◌, ap₂, subst₂, arith, length-drop}
 use mathlib.Core.HLevel.{⊥_prop}
 use mathlib.Core.Logic.{∥∥₁_elim}
 use native.Mathlib.Nat.{ℕ_set}
@@ -7,8 +7,7 @@ use lib.ListN.{length-map}
 use Rattle.std.proofs.lemmas.List.{get_or-map, drop-map, length-take-le}
 use Rattle.rules.specs.Refusals.{Verdict, accepted, refused}
 use Rattle.rules.specs.Boards.{Module, Design, no_module, module_number, design_from, cells_at, ahead}
-use Rattle.rules.specs.Files.{module_start, occurrence_start}
-use Rattle.rules.specs.Records.{end_of, body, after, uses, module_count, module_place, records_read, outputs_in, states_in}
+use Rattle.rules.specs.Records.{end_of, body, uses, module_count, module_place, records_read, outputs_in, states_in}
 use Rattle.rules.specs.Judging.{placed_at, module_of, unit_no, units_of, board_of, modules_judged, verdict, seen_from}
 use Rattle.rules.proofs.Verdicts.{refused_accepted, then_left}
 use Rattle.rules.proofs.Modules.{length_units}

@@ -23,11 +23,11 @@ fn read_input(rt: &HostRuntime, file: &[u8]) -> io::Result<Vec<u8>> {
 }
 
 // Says on standard error what failed, and hands the result on.
-fn told<T, E: Display>(rt: &HostRuntime, failure: &str, res: Result<T, E>) -> Result<T, E> {
-    if let Err(e) = &res {
+fn told<T, E: Display>(rt: &HostRuntime, failure: &str, outcome: Result<T, E>) -> Result<T, E> {
+    if let Err(e) = &outcome {
         let _ = eprintln!(rt; "cabrun: {failure}: {e}");
     }
-    res
+    outcome
 }
 
 fn main(rt: HostRuntime) -> io::Result<()> {

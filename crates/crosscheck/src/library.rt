@@ -106,15 +106,15 @@ fn step<K: Kind>(
     }
 }
 
-fn done<K>(res: Result<(), CallRefusal>) -> Answer<K> {
-    match res {
+fn done<K>(outcome: Result<(), CallRefusal>) -> Answer<K> {
+    match outcome {
         Ok(()) => Answer::Done,
         Err(refusal) => Answer::Refused(refusal.number()),
     }
 }
 
-fn valued<K>(res: Result<K, CallRefusal>) -> Answer<K> {
-    match res {
+fn valued<K>(outcome: Result<K, CallRefusal>) -> Answer<K> {
+    match outcome {
         Ok(value) => Answer::Value(value),
         Err(refusal) => Answer::Refused(refusal.number()),
     }

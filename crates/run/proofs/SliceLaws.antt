@@ -2,7 +2,7 @@
 use Rattle.std.proofs.Common.{◌≡◌, ℕ, zero, suc, ◌*◌, ◌<◌, false, List, [], ◌∷◌, map, length, get_or, sym, ◌∙◌, subst, le_of_suc-le-suc, arith}
 use Rattle.signal.specs.Kinds.{Kind, Situation, Settled, Lawful, AdmitsBoth}
 use Rattle.signal.specs.GateValues.{AllSettled}
-use Rattle.rules.specs.Boards.{Design, out_wires, cells}
+use Rattle.rules.specs.Boards.{Design, out_wires}
 use Rattle.rules.specs.Sound.{Sound, All}
 use Rattle.flat.specs.Flat.{Store, cell_bits}
 use Rattle.flat.specs.Laws.{All2}

@@ -6,7 +6,7 @@ use Rattle.signal.specs.Levels.{levels}
 use Rattle.rules.specs.Refusals.{accepted}
 use Rattle.rules.specs.Boards.{Design, top, cells}
 use Rattle.rules.specs.Judging.{board_of, verdict}
-use Rattle.flat.specs.Runs.{Room, Call, step, Answer, refused, counted, Run, Outcome, Start, not_started, started, power, call, trace}
+use Rattle.flat.specs.Runs.{Call, step, Answer, refused, counted, Run, Outcome, Start, not_started, started, power, call, trace}
 
 -- Files
 

@@ -1,5 +1,5 @@
 -- What a desk stands for, after each of its calls.
-use Rattle.std.proofs.Common.{◌≡◌, ℕ, ◌+◌, ◌-◌, ◌*◌, ◌<◌, ◌≤◌, Bool, true, false, cond, not, ◌&&◌, eqb, leb, List, [], ◌∷◌, ◌++◌, length, take, drop, replicate, Some, None, Ok, Err, vec_items, vec_len, Result, sym, refl, ap, ◌∙◌, append_assoc, add-mul, one-mul, zero-mul, arith, eq-eqb, leb-true, MatchResult}
+use Rattle.std.proofs.Common.{◌≡◌, ℕ, ◌+◌, ◌-◌, ◌*◌, ◌<◌, ◌≤◌, Bool, true, false, cond, not, ◌&&◌, eqb, leb, List, [], ◌∷◌, ◌++◌, length, take, drop, replicate, Some, Ok, Err, vec_items, vec_len, Result, sym, refl, ap, ◌∙◌, append_assoc, add-mul, one-mul, zero-mul, arith, eq-eqb, leb-true, MatchResult}
 use borrow.Author.Tests.{clash, eqb_apart}
 use Rattle.std.specs.Vec.{with_items}
 use Rattle.std.proofs.lemmas.List.{drop-take, length-append, length-map, length-take-le, nil_from_length, with_items_is, take_at}
@@ -9,7 +9,7 @@ use Rattle.rules.specs.Refusals.{accepted, refused as refuses_by}
 use Rattle.rules.specs.Judging.{verdict, board_of}
 use Rattle.rules.specs.Boards.{Design, in_count, out_wires, cells, top}
 use Rattle.flat.specs.Passes.{step_of}
-use Rattle.flat.specs.Runs.{Room, Call, step, refused, counted, Run, Outcome, Start, not_started, started, refusal, carried_out, power}
+use Rattle.flat.specs.Runs.{Room, Call, step, refused, counted, Run, Start, not_started, started, refusal, carried_out, power}
 use Rattle.board.specs.declared.board.Board.{Board}
 use Rattle.walk.specs.declared.level.Level.{Level}
 use Rattle.walk.specs.Steps.{design_in}

@@ -2,14 +2,13 @@
 use Rattle.std.proofs.Common.{◌≡◌, ℕ, ◌+◌, ◌-◌, ◌*◌, ◌<◌, ◌≤◌, true, List, [], ◌∷◌, ◌++◌, length, get_or, take, drop, is_some, Some, None, Option, sym, refl, ap, ◌∙◌, subst, ap₂, arith, length-append, length-drop}
 use Rattle.std.proofs.lemmas.List.{get_or-drop, drop-drop, drop_at, take_at, append_assoc}
 use Rattle.gates.specs.declared.Part.{Part}
-use Rattle.gates.specs.declared.Part.TheVariants.{Gate as gate, Cell as cell, Module as module_no}
 use Rattle.gates.specs.Gates.{part_of}
 use Rattle.rules.specs.Refusals.{accepted}
-use Rattle.rules.specs.Boards.{Occurrence, Module, node, part, present, module_number, occurrence_no, design_from, design_number}
-use Rattle.rules.specs.Files.{word, RecordAt, module_body, OccurrenceBody, module_start, occurrence_start, BoardRange}
+use Rattle.rules.specs.Boards.{Occurrence, Module, node, part, present, module_number, occurrence_no}
+use Rattle.rules.specs.Files.{RecordAt, module_body, OccurrenceBody, module_start, occurrence_start, BoardRange}
 use Rattle.rules.specs.Records.{records_read}
 use Rattle.rules.specs.Judging.{units_of, modules_judged}
-use Rattle.rules.specs.Sound.{Sound, Refers}
+use Rattle.rules.specs.Sound.{Refers}
 use Rattle.rules.proofs.Verdicts.{then_left}
 use Rattle.rules.proofs.Laid.{passes_short, passes_laid_out, passes_range}
 use Rattle.rules.proofs.Sounds

@@ -1,28 +1,23 @@
 -- The state as a pass ends: outputs and cells go to the level above, or the walk is done.
-use Rattle.std.proofs.Common.{◌≡◌, ℕ, suc, ◌+◌, ◌-◌, ◌*◌, ◌<◌, ◌≤◌, ◌≢◌, List, [], ◌∷◌, ◌++◌, map, length, get_or, take, drop, set, Some, Option, sym, refl, ap, ◌∙◌, subst, ap₂, add-one, arith}
+use Rattle.std.proofs.Common.{◌≡◌, ℕ, suc, ◌+◌, ◌-◌, ◌<◌, ◌≤◌, ◌≢◌, List, [], ◌∷◌, ◌++◌, map, length, get_or, set, Some, sym, refl, ap, ◌∙◌, subst, ap₂, add-one, arith}
 use mathlib.Core.Path.{fun_ext}
-use Rattle.std.proofs.lemmas.List.{get_or-map, get_or-take, get_or-append-add, length-append, drop_more, drop_all}
-use Rattle.gates.specs.declared.Gate.{Gate}
-use Rattle.gates.specs.declared.Part.{Part}
-use Rattle.gates.specs.declared.Part.TheVariants.{Gate as gate, Cell as cell, Module as module_no}
+use Rattle.std.proofs.lemmas.List.{length-append}
+use Rattle.gates.specs.declared.Part.TheVariants.{Module as module_no}
 use Rattle.signal.specs.Kinds.{Kind}
-use Rattle.signal.specs.GateValues.{input}
-use Rattle.rules.specs.Boards.{Occurrence, Module, Design, node, part, out_wires, module_number, occurrence_no, cells_of, cells, cells_at}
+use Rattle.rules.specs.Boards.{Occurrence, Module, node, part, out_wires, module_number, occurrence_no, cells, cells_at}
 use Rattle.rules.specs.Files.{BoardRange}
 use Rattle.rules.specs.Sound.{All}
-use Rattle.flat.specs.Machine.{Doing, for_outputs, for_both, storing, Level as Frame, Machine, busy, halted, kept, entry, saved, entered, entry_ticks, occurrence_of, stored_up, second_tick, level_tick, tick}
-use Rattle.flat.specs.InPlace.{in_place, base, region, row, stored_length, sizes, OwnFits, Under, write_as, write_entry, write_part}
+use Rattle.flat.specs.Machine.{Level as Frame, busy, halted, kept, entry, saved, occurrence_of, tick}
+use Rattle.flat.specs.InPlace.{base, stored_length}
 use Rattle.flat.specs.Windows.{writes}
 use Rattle.flat.proofs.Windows.{windows_show}
-use Rattle.flat.proofs.InPlace.{cells_in_place}
 use Rattle.flat.proofs.Places.{all_at}
-use Rattle.board.specs.Lent.{behind}
 use Rattle.walk.specs.declared.level.Level.{Level}
-use Rattle.walk.specs.declared.level.Pass.TheVariants.{ForOutputs, ForBoth, Storing}
-use Rattle.walk.specs.Levels.{level_at, placed, advanced, module_of_level, child_base, child_level, Enterable, Leavable, Opened}
-use Rattle.walk.specs.Shown.{Holds, Waits, Stands, Does, ShowsLevel, Stack, Frames, State}
+use Rattle.walk.specs.declared.level.Pass.TheVariants.{ForOutputs, Storing}
+use Rattle.walk.specs.Levels.{level_at, placed, advanced, module_of_level, Leavable}
+use Rattle.walk.specs.Shown.{Waits, Does, ShowsLevel, Stack, Frames, State}
 use Rattle.walk.proofs.Modules
-use Rattle.walk.proofs.Rows.{outputs_wait, outputs_return, storing_is, under_both, lies, stores_are, stack_held}
+use Rattle.walk.proofs.Rows.{outputs_wait, outputs_return, stores_are}
 use Rattle.walk.proofs.Sim.{stack_top, passed_frames}
 use Rattle.walk.proofs.States.{Sounds, Running}
 use Rattle.walk.proofs.States

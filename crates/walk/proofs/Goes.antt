@@ -1,5 +1,5 @@
 -- From where a pass stopped, one tick further: into a module, out of one, over to the second pass, or to the end.
-use Rattle.std.proofs.Common.{◌≡◌, ℕ, ◌+◌, ◌-◌, ◌<◌, ◌≤◌, ◌≢◌, List, map, length, get_or, set, Some, None, Option, sym, refl, ap, ◌∙◌, subst}
+use Rattle.std.proofs.Common.{◌≡◌, ℕ, ◌+◌, ◌-◌, ◌<◌, ◌≤◌, ◌≢◌, List, map, length, get_or, set, Some, None, refl, ap, ◌∙◌}
 use Rattle.std.proofs.lemmas.List.{set-set}
 use Rattle.signal.specs.Kinds.{Kind}
 use Rattle.rules.specs.Boards.{Module, module_number, occurrence_no}
@@ -8,7 +8,6 @@ use Rattle.flat.specs.Windows.{writes}
 use Rattle.board.specs.declared.lent.Tables.{Tables}
 use Rattle.board.specs.Lent.{board_in, Right}
 use Rattle.walk.specs.declared.level.Level.{Level}
-use Rattle.walk.specs.declared.level.Pass.{Pass}
 use Rattle.walk.specs.declared.level.Pass.TheVariants.{ForOutputs, ForBoth, Storing}
 use Rattle.walk.specs.declared.reading.Child.{Child}
 use Rattle.walk.specs.Levels.{level_at, placed, advanced, turned, module_of_level, child_base, child_level, Enterable, Leavable, Opened}

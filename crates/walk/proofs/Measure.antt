@@ -1,5 +1,5 @@
 -- How many ticks are left, by the levels, and that the count only rises.
-use Rattle.std.proofs.Common.{◌≡◌, ℕ, zero, suc, ◌+◌, ◌<◌, ◌≤◌, List, [], ◌∷◌, ◌++◌, map, length, drop, sym, refl, ap, ◌∙◌, subst, ap₂, arith}
+use Rattle.std.proofs.Common.{◌≡◌, ℕ, suc, ◌+◌, ◌≤◌, List, [], ◌∷◌, ◌++◌, map, length, drop, sym, refl, ap, ◌∙◌, ap₂, arith}
 use Rattle.signal.specs.Kinds.{Kind}
 use Rattle.rules.specs.Boards.{Module, Design, node, cells}
 use Rattle.flat.specs.Machine.{Doing, for_outputs, for_both, storing, Level as Frame, Machine, busy, halted, passed, saved, entry, occurrence_of, tick, level_left, levels_left, ticks_left, Onward, finished, walk, comes, onward, result, SoundMachine}

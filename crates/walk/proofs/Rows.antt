@@ -3,12 +3,12 @@ use Rattle.std.proofs.Common.{◌≡◌, ℕ, ◌+◌, ◌<◌, ◌≤◌, ◌�
 use Rattle.std.proofs.lemmas.List.{get_or_append_left, get_or-append-add, length-append}
 use Rattle.signal.specs.Kinds.{Kind}
 use Rattle.rules.specs.Boards.{Occurrence, Module, node, part, cells, cells_at}
-use Rattle.flat.specs.Machine.{Doing, for_outputs, for_both, storing, Level as Frame, Machine, busy, entry, returned, part_ticks, first_tick, level_tick}
+use Rattle.flat.specs.Machine.{Doing, for_outputs, for_both, storing, Level as Frame, busy, entry, returned, part_ticks, first_tick, level_tick}
 use Rattle.flat.specs.InPlace.{around, row, base, stored_length, Under, Stores, write_as}
 use Rattle.walk.specs.declared.level.Level.{Level}
 use Rattle.walk.specs.declared.level.Pass.TheVariants.{ForOutputs, ForBoth, Storing}
 use Rattle.walk.specs.Levels.{level_at}
-use Rattle.walk.specs.Shown.{Holds, Waits, Stands, Does, ShowsLevel, Stack}
+use Rattle.walk.specs.Shown.{Holds, Waits, Stands, Does, Stack}
 
 outputs_both : ForOutputs ≡ ForBoth → ⊥
 outputs_both e = let z : ◌≡◌ {A = ℕ} 0 1 = cc in omega arith

@@ -1,12 +1,12 @@
 -- A first pass that keeps its place aside: what an occurrence relies on, and the state behind it.
-use Rattle.std.proofs.Common.{◌≡◌, ℕ, ◌+◌, ◌-◌, ◌<◌, ◌≤◌, ◌≢◌, List, map, length, get_or, take, drop, set, Some, sym, ap, ◌∙◌, subst, arith, length-set}
+use Rattle.std.proofs.Common.{◌≡◌, ℕ, ◌+◌, ◌-◌, ◌<◌, ◌≤◌, ◌≢◌, List, map, length, get_or, take, drop, set, Some, sym, ap, arith, length-set}
 use Rattle.std.proofs.lemmas.List.{set-set}
 use Rattle.gates.specs.declared.Gate.{Gate}
 use Rattle.gates.specs.declared.Part.TheVariants.{Gate as gate, Cell as cell}
 use Rattle.signal.specs.Kinds.{Kind}
 use Rattle.signal.specs.GateValues.{gate_value}
 use Rattle.rules.specs.Boards.{Occurrence, Module, part, occurrence_no}
-use Rattle.flat.specs.Machine.{Machine, tick, result, ticks_left}
+use Rattle.flat.specs.Machine.{Machine, result, ticks_left}
 use Rattle.board.specs.declared.lent.Tables.{Tables}
 use Rattle.board.specs.Lent.{board_in, Right}
 use Rattle.walk.specs.declared.level.Level.{Level}

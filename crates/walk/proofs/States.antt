@@ -1,5 +1,5 @@
 -- The state after a tick of the last level: past a gate or a cell in a first pass, into a module, over to the second pass.
-use Rattle.std.proofs.Common.{◌≡◌, ℕ, suc, ◌+◌, ◌*◌, ◌<◌, ◌≤◌, ◌≢◌, List, [], ◌∷◌, map, length, get_or, drop, set, Some, Option, sym, refl, ap, ◌∙◌, subst, ap₂, arith}
+use Rattle.std.proofs.Common.{◌≡◌, ℕ, ◌+◌, ◌<◌, ◌≤◌, ◌≢◌, List, [], ◌∷◌, map, length, get_or, drop, set, Some, Option, sym, refl, ap, ◌∙◌, subst, ap₂, arith}
 use Rattle.std.proofs.lemmas.List.{get_or-map, get_or-take, get_or-drop, drop_more, drop_all}
 use Rattle.gates.specs.declared.Gate.{Gate}
 use Rattle.gates.specs.declared.Part.{Part}
@@ -10,9 +10,9 @@ use Rattle.rules.specs.Boards.{Occurrence, no_occurrence, Module, Design, node, 
 use Rattle.rules.specs.Files.{BoardRange}
 use Rattle.rules.specs.Sound.{All, Sound}
 use Rattle.flat.specs.Passes.{own, start}
-use Rattle.flat.specs.Machine.{Doing, for_outputs, for_both, storing, Level as Frame, Machine, busy, halted, passed, entered, part_ticks, occurrence_of, tick, SoundMachine, Deep}
+use Rattle.flat.specs.Machine.{Doing, for_outputs, storing, Level as Frame, Machine, busy, passed, entered, part_ticks, occurrence_of, tick, Deep}
 use Rattle.flat.specs.InPlace.{in_place, base}
-use Rattle.flat.specs.Windows.{Shows, writes}
+use Rattle.flat.specs.Windows.{writes}
 use Rattle.flat.proofs.Windows.{windows_show}
 use Rattle.flat.proofs.Machine.{machine_keeps}
 use Rattle.flat.proofs.Deep.{stays_deep}
@@ -20,12 +20,12 @@ use Rattle.flat.proofs.InPlace.{cells_in_place}
 use Rattle.board.specs.Lent.{behind}
 use Rattle.walk.specs.declared.level.Level.{Level}
 use Rattle.walk.specs.declared.level.Pass.{Pass}
-use Rattle.walk.specs.declared.level.Pass.TheVariants.{ForOutputs, ForBoth, Storing}
-use Rattle.walk.specs.Levels.{no_level, level_at, placed, turned, cells_ahead, module_of_level, child_base, child_level, Enterable, Opened}
-use Rattle.walk.specs.Shown.{Holds, Waits, Stands, Does, ShowsLevel, Stack, Frames, State}
+use Rattle.walk.specs.declared.level.Pass.TheVariants.{ForOutputs, Storing}
+use Rattle.walk.specs.Levels.{level_at, placed, turned, cells_ahead, module_of_level, child_base, child_level, Enterable, Opened}
+use Rattle.walk.specs.Shown.{Holds, Does, ShowsLevel, Stack, Frames, State}
 use Rattle.walk.proofs.Modules
 use Rattle.walk.proofs.Rows.{first_holds, first_writes, first_ticks_on, both_stand, both_turn}
-use Rattle.walk.proofs.Sim.{level_same, level_other, stack_same, stack_top, passed_frames}
+use Rattle.walk.proofs.Sim.{stack_top, passed_frames}
 
 abbrev pub Sounds : List Module → Type 0
 Sounds board = (k : ℕ) → k < length board → Sound (node (module_number board k) (behind board k))

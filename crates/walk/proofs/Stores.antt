@@ -1,28 +1,21 @@
 -- The state in a second pass: past a cell, and into a module.
-use Rattle.std.proofs.Common.{◌≡◌, ℕ, suc, ◌+◌, ◌-◌, ◌*◌, ◌<◌, ◌≤◌, ◌≢◌, List, [], ◌∷◌, ◌++◌, map, length, get_or, take, drop, set, Some, Option, sym, refl, ap, ◌∙◌, subst, ap₂, add-one, arith}
-use mathlib.Core.Path.{fun_ext}
+use Rattle.std.proofs.Common.{◌≡◌, ℕ, suc, ◌+◌, ◌<◌, ◌≤◌, List, [], ◌∷◌, ◌++◌, map, length, get_or, take, drop, set, Some, Option, sym, refl, ap, ◌∙◌, subst, ap₂, add-one, arith}
 use Rattle.std.proofs.lemmas.List.{get_or-map, get_or-take, get_or-append-add, length-append, drop_more, drop_all}
-use Rattle.gates.specs.declared.Gate.{Gate}
 use Rattle.gates.specs.declared.Part.{Part}
-use Rattle.gates.specs.declared.Part.TheVariants.{Gate as gate, Cell as cell, Module as module_no}
+use Rattle.gates.specs.declared.Part.TheVariants.{Cell as cell, Module as module_no}
 use Rattle.signal.specs.Kinds.{Kind}
 use Rattle.signal.specs.GateValues.{input}
-use Rattle.rules.specs.Boards.{Occurrence, Module, Design, node, part, out_wires, module_number, occurrence_no, cells_of, cells, cells_at}
-use Rattle.rules.specs.Files.{BoardRange}
-use Rattle.rules.specs.Sound.{All}
-use Rattle.flat.specs.Machine.{Doing, for_outputs, for_both, storing, Level as Frame, Machine, busy, halted, kept, entry, saved, entered, entry_ticks, occurrence_of, stored_up, second_tick, level_tick, tick}
+use Rattle.rules.specs.Boards.{Occurrence, Module, node, part, module_number, occurrence_no, cells_of, cells, cells_at}
+use Rattle.flat.specs.Machine.{for_both, storing, Level as Frame, Machine, busy, kept, entry, saved, entered, entry_ticks, stored_up, second_tick, level_tick, tick}
 use Rattle.flat.specs.InPlace.{in_place, base, region, row, stored_length, sizes, OwnFits, Under, write_as, write_entry, write_part}
-use Rattle.flat.specs.Windows.{writes}
-use Rattle.flat.proofs.Windows.{windows_show}
 use Rattle.flat.proofs.InPlace.{cells_in_place}
-use Rattle.board.specs.Lent.{behind}
 use Rattle.walk.specs.declared.level.Level.{Level}
-use Rattle.walk.specs.declared.level.Pass.TheVariants.{ForOutputs, ForBoth, Storing}
-use Rattle.walk.specs.Levels.{level_at, placed, advanced, module_of_level, child_base, child_level, Enterable, Leavable, Opened}
-use Rattle.walk.specs.Shown.{Holds, Waits, Stands, Does, ShowsLevel, Stack, Frames, State}
+use Rattle.walk.specs.declared.level.Pass.TheVariants.{ForBoth, Storing}
+use Rattle.walk.specs.Levels.{level_at, advanced, module_of_level, child_base, child_level, Enterable, Opened}
+use Rattle.walk.specs.Shown.{Holds, Stands, Does, ShowsLevel, Frames, State}
 use Rattle.walk.proofs.Modules
-use Rattle.walk.proofs.Rows.{outputs_wait, outputs_return, storing_is, under_both, lies, stores_are, stack_held}
-use Rattle.walk.proofs.Sim.{stack_top, passed_frames}
+use Rattle.walk.proofs.Rows.{storing_is, under_both, lies, stack_held}
+use Rattle.walk.proofs.Sim.{stack_top}
 use Rattle.walk.proofs.States.{Sounds, Running}
 use Rattle.walk.proofs.States
 

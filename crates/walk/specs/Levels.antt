@@ -6,7 +6,7 @@ use Rattle.board.specs.declared.lent.Tables.{Tables}
 use Rattle.board.specs.Lent.{board_in, behind}
 use Rattle.walk.specs.declared.level.Level.{Level}
 use Rattle.walk.specs.declared.level.Pass.{Pass}
-use Rattle.walk.specs.declared.level.Pass.TheVariants.{ForOutputs, ForBoth, Storing}
+use Rattle.walk.specs.declared.level.Pass.TheVariants.{ForBoth, Storing}
 
 abbrev pub module_in : Tables → ℕ → Module
 module_in t k = module_number (board_in t) k

@@ -1,7 +1,7 @@
 use Rattle.std.proofs.Common.{◌≡◌, ◌+◌, ◌-◌, ◌<◌, ◌≢◌, length, sym, refl, ap, ◌∙◌, subst, arith, length-set, get_or-set_other, get_or-set_same, below_more}
 use Rattle.std.proofs.lemmas.Result.{err_from_is_err_and}
 use Rattle.rules.specs.Refusals.{accepted, refused, asked}
-use Rattle.rules.specs.Records.{end_of, body, after, read, occurrence_shape, occurrences_read}
+use Rattle.rules.specs.Records.{end_of, after, read, occurrence_shape, occurrences_read}
 use Rattle.rules.specs.declared.refusal.Refusal.TheVariants.{Shape}
 use Rattle.rules.proofs.Reading.{after_more, occurrences_on, occurrences_off, read_on, read_off, read_cut, none_left}
 use Rattle.board.proofs.layout.read_occurrences.Goals as goal

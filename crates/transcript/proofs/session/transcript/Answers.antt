@@ -1,4 +1,4 @@
-use Rattle.std.proofs.Common.{◌≡◌, string_bytes, sym, ap, ◌∙◌}
+use Rattle.std.proofs.Common.{string_bytes, ap, ◌∙◌}
 use Rattle.transcript.proofs.Desking.{whole_accepted, whole_refused}
 use Rattle.transcript.proofs.session.transcript.Goals as goal
 use Rattle.transcript.proofs.session.transcript.Goals.{in-Ok+in_ok-push_kind_line-in-Ok+in_ok-desk-in-Ok+in_ok-converse-in-Ok, in-Err+in_ok-push_board_line-in-Err}

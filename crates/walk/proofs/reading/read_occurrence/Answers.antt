@@ -1,4 +1,4 @@
-use Rattle.std.proofs.Common.{◌≡◌, ◌<◌, true, is_some, sym, ap, ◌∙◌, subst, arith, rules}
+use Rattle.std.proofs.Common.{◌<◌, is_some, sym, ap, ◌∙◌, arith, rules}
 use Rattle.walk.proofs.Bytes.{range, known, occurrence_lies}
 use Rattle.walk.proofs.reading.read_occurrence.Goals as goal
 

@@ -1,4 +1,4 @@
-use Rattle.std.proofs.Common.{◌≡◌, ◌≤◌, ◌≢◌, length, sym, ap, ◌∙◌, subst, arith}
+use Rattle.std.proofs.Common.{◌≤◌, ◌≢◌, length, sym, ◌∙◌, subst, arith}
 use Rattle.board.specs.Lent.{board_in}
 use Rattle.walk.specs.declared.level.Pass.TheVariants.{Storing}
 use Rattle.walk.specs.Levels.{level_at}

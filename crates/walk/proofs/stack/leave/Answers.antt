@@ -1,4 +1,4 @@
-use Rattle.std.proofs.Common.{◌≡◌, ℕ, ◌+◌, ◌-◌, ◌<◌, List, map, length, get_or, sym, refl, ap, ◌∙◌, subst, ap₂, arith, rules}
+use Rattle.std.proofs.Common.{ℕ, ◌+◌, ◌-◌, ◌<◌, List, map, length, get_or, sym, refl, ap, ◌∙◌, subst, ap₂, rules}
 use Rattle.flat.specs.Windows.{writes}
 use Rattle.walk.specs.Levels.{level_at}
 use Rattle.walk.proofs.stack.leave.Goals as goal

@@ -1,4 +1,4 @@
-use Rattle.std.proofs.Common.{◌≡◌, ◌+◌, ◌-◌, ◌<◌, length, set, ap, ◌∙◌, arith, rules}
+use Rattle.std.proofs.Common.{◌+◌, ◌-◌, ◌<◌, length, set, ap, ◌∙◌, arith, rules}
 use Rattle.std.proofs.lemmas.List.{set-set}
 use Rattle.walk.specs.declared.level.Level.{Level}
 use Rattle.walk.specs.Levels.{level_at, placed, advanced}

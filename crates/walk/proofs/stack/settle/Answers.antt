@@ -1,10 +1,9 @@
-use Rattle.std.proofs.Common.{◌≡◌, ℕ, ◌+◌, ◌-◌, ◌<◌, ◌≤◌, List, length, get_or, set, Some, None, sym, refl, ap, ◌∙◌, subst, arith, rules}
+use Rattle.std.proofs.Common.{◌≡◌, ◌+◌, ◌<◌, ◌≤◌, length, get_or, set, Some, sym, refl, ap, ◌∙◌, subst, arith, rules}
 use Rattle.std.proofs.lemmas.List.{get_or_read, set-get_or}
-use Rattle.flat.specs.Machine.{Machine}
 use Rattle.rules.specs.Boards.{occurrence_no}
 use Rattle.board.specs.Lent.{board_in}
 use Rattle.walk.specs.declared.level.Level.{Level}
-use Rattle.walk.specs.Levels.{no_level, level_at, placed, advanced, module_of_level}
+use Rattle.walk.specs.Levels.{no_level, level_at, placed, module_of_level}
 use Rattle.walk.specs.Shown.{State, Later, StopFirst}
 use Rattle.walk.proofs.Settles
 use Rattle.walk.proofs.Turns.{placed_at, placed_is}

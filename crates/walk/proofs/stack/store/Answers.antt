@@ -1,14 +1,13 @@
-use Rattle.std.proofs.Common.{◌≡◌, ℕ, ◌+◌, ◌-◌, ◌<◌, ◌≤◌, List, length, get_or, set, Some, None, sym, refl, ap, ◌∙◌, subst, arith, rules}
+use Rattle.std.proofs.Common.{◌≡◌, ℕ, ◌+◌, ◌<◌, ◌≤◌, List, length, get_or, set, Some, None, sym, refl, ap, ◌∙◌, subst, arith, rules}
 use Rattle.std.proofs.lemmas.List.{get_or_read, set-get_or}
-use Rattle.flat.specs.Machine.{Machine}
 use Rattle.rules.specs.Boards.{part, occurrence_no}
 use Rattle.gates.specs.declared.Gate.{Gate}
 use Rattle.gates.specs.declared.Part.{Part}
 use Rattle.gates.specs.declared.Part.TheVariants.{Gate as gate, Cell as cell, Module as module_no}
 use Rattle.board.specs.Lent.{board_in}
 use Rattle.walk.specs.declared.level.Level.{Level}
-use Rattle.walk.specs.Levels.{no_level, level_at, placed, advanced, module_of_level}
-use Rattle.walk.specs.Shown.{State, Later, StopSecond}
+use Rattle.walk.specs.Levels.{no_level, level_at, advanced, module_of_level}
+use Rattle.walk.specs.Shown.{State, StopSecond}
 use Rattle.walk.proofs.Bytes
 use Rattle.walk.proofs.Modules
 use Rattle.walk.proofs.Settles

@@ -1,6 +1,3 @@
-use Rattle.std.proofs.Common.{refl}
-use Rattle.walk.specs.Levels.{level_at}
-use Rattle.walk.proofs.Turns
 use Rattle.walk.proofs.stack.turn.Goals as goal
 
 pub returns-in-Storing : goal.returns-in-Storing

@@ -1,4 +1,4 @@
-use Rattle.std.proofs.Common.{◌≡◌, ◌+◌, map, get_or, take, drop}
+use Rattle.std.proofs.Common.{◌≡◌, ◌+◌, map, get_or, drop}
 use Rattle.flat.specs.Windows.{writes}
 use Rattle.walk.proofs.windows.hand_up.Given as goal
 
