@@ -3,6 +3,7 @@
 
 use std::fmt::Display;
 use std::io::{ErrorKind, Read};
+use std::process::ExitCode;
 use std::{fs, io};
 use transcript::{cab_transcript, takes_input};
 
@@ -30,11 +31,19 @@ fn told<T, E: Display>(rt: &HostRuntime, failure: &str, outcome: Result<T, E>) -
     outcome
 }
 
-fn main(rt: HostRuntime) -> io::Result<()> {
-    let file = told(&rt, "board.bin cannot be read", read_board(&rt))?;
-    let input = read_input(&rt, file.as_slice());
-    let input = told(&rt, "standard input cannot be read", input)?;
+fn run(rt: &HostRuntime) -> io::Result<()> {
+    let file = told(rt, "board.bin cannot be read", read_board(rt))?;
+    let input = read_input(rt, file.as_slice());
+    let input = told(rt, "standard input cannot be read", input)?;
     let text = cab_transcript(rt.alloc(), file.as_slice(), input.as_slice());
-    let text = told(&rt, "the text cannot be made", text)?;
-    told(&rt, "the text cannot be printed", print!(rt; "{text}"))
+    let text = told(rt, "the text cannot be made", text)?;
+    told(rt, "the text cannot be printed", print!(rt; "{text}"))
+}
+
+// What failed has been said where it failed.
+fn main(rt: HostRuntime) -> ExitCode {
+    match run(&rt) {
+        Ok(()) => ExitCode::SUCCESS,
+        Err(_) => ExitCode::FAILURE,
+    }
 }

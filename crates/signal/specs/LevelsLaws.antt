@@ -3,7 +3,7 @@ use Rattle.std.specs.Prelude.{◌≡◌, Bool, true, false, cond, not, ◌&&◌,
 use Rattle.std.proofs.lemmas.Bool.{and_parts}
 use Rattle.signal.specs.declared.levels.Level.{Level}
 use Rattle.signal.specs.declared.levels.Level.TheVariants.{Zero, One, Unknown}
-use Rattle.signal.specs.Kinds.{Lawful, Situation, differ, Settled, Only, Admits, Follows1, Follows2, Follows3, Settles1, Settles2, Settles3}
+use Rattle.signal.specs.Kinds.{Lawful, Situation, differ, Settled, Only, Admits, AdmitsBoth, Follows1, Follows2, Follows3, Settles1, Settles2, Settles3}
 use Rattle.signal.specs.Levels.{levels, every_filling, agreed, by_filling, by_fillings, pick_level, told_level, admits_level}
 use Rattle.signal.specs.Situations.{row_0, not_both, not_both', same_some, never_some, none_otherwise}
 
@@ -90,3 +90,6 @@ levels_lawful = record {
   told_bit = told_bit;
   told_none = λ v. none_otherwise levels v (told_bit v);
 }
+
+pub unknown_open : AdmitsBoth levels Unknown
+unknown_open s b = refl

@@ -1,8 +1,7 @@
 // Three levels: 0, 1 and unknown.
 ghost use Rattle.signal.specs.Levels.{levels as the_levels};
 ghost use Rattle.signal.specs.declared.levels.Level.TheVariants.{Unknown};
-ghost use Rattle.signal.specs.LevelsLaws.{levels_lawful};
-ghost use Rattle.std.proofs.Common.{rules};
+ghost use Rattle.signal.specs.LevelsLaws.{levels_lawful, unknown_open};
 
 use super::{Signal, WithUnknown};
 
@@ -84,7 +83,7 @@ impl Signal for Level {
 impl WithUnknown for Level {
     ghost blank = { Unknown };
 
-    ghost open = { Prim.search rules };
+    ghost open = { unknown_open };
 
     fn unknown() -> Level {
         Level::Unknown
