@@ -5,7 +5,7 @@ usage: python3 tools/respell.py [--table] [FOLDER]
 
 FOLDER is the repository's top (default: the folder above this script's). `gate-value` becomes `gate_value`, `Gates-on-bits` becomes `GatesOnBits`. What turns:
 the texts of specs/ and proofs/, but for strings and comments outside backticks; of src/ the clauses, the ghost items and the `ghost use` lines; of the pages
-README.md and docs/*.md the names in backticks. What stays: names that come from the library, and the names of goals and of steps, which Rattle makes.
+README.md and docs/*.md, but for docs/PORT*.md, the names in backticks. What stays: names that come from the library, and the names of goals and of steps, which Rattle makes.
 --table prints each old name with its new one, and those that fall together, and writes nothing. A second run changes nothing.
 """
 
@@ -15,6 +15,8 @@ import re
 import sys
 
 WORD = r"[^\s(){}.;,@\"«»`]+"
+# `Laid_out` is what the kit's script makes of a type `Laid-out`, and it leaves the old word for reading a list in names.
+HALF_TURNED = re.compile(r"[A-Z][a-z]+(?:_[a-z]+)+$|(?:[a-z]+_)?getD(?:_[a-z]+)?$")
 HYPHENED = re.compile(r"(?=.*[\w']-[\w'])[\w'₀-₉-]+$")
 USE = re.compile(r"\buse ([^\s;{]+)\.\{([^}]*)\}")
 MADE = re.compile(r"/proofs/.+/(Answers|Choices|Invariants|Proof)\.antt$")
@@ -30,8 +32,8 @@ GHOST_USE = re.compile(r"\bghost\s+use\b[^;]*;")
 
 def respelled(word):
     if word[0].isupper():
-        return "".join(part[:1].upper() + part[1:] for part in word.split("-"))
-    return word.replace("-", "_")
+        return "".join(part[:1].upper() + part[1:] for part in re.split("[-_]", word))
+    return word.replace("-", "_").replace("getD", "get_or")
 
 
 def texts(top, crates):
@@ -78,7 +80,7 @@ class Names:
                 self.fields.update(FIELD.findall(text))
 
     def is_own(self, word):
-        return bool(HYPHENED.match(word)) and word not in self.library
+        return bool(HYPHENED.match(word) or HALF_TURNED.match(word)) and word not in self.library
 
     def turn(self, word, behind, labels):
         if not self.is_own(word) or word in labels:

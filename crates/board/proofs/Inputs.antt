@@ -38,10 +38,10 @@ reach_more rs i h e w x =
           ∙ ap (λ b. b && eqb w x) (elim (cases_lt w i) [ inl l ↦ lt-ltb w i l ∙ sym (lt-ltb w (i + 1) (omega arith)) | inr l ↦ le-ltb w i l ∙ sym (le-ltb w (i + 1) (omega arith)) ])
     ]
 
-pub getD_blank : {X : Type 0} (d : X) (n w : ℕ) → get_or (replicate n d) w d ≡ d
-getD_blank d zero w = refl
-getD_blank d (suc n) zero = refl
-getD_blank d (suc n) (suc w) = getD_blank d n w
+pub get_or_blank : {X : Type 0} (d : X) (n w : ℕ) → get_or (replicate n d) w d ≡ d
+get_or_blank d zero w = refl
+get_or_blank d (suc n) zero = refl
+get_or_blank d (suc n) (suc w) = get_or_blank d n w
 
 pub ltb_zero : (w : ℕ) → ltb w 0 ≡ false
 ltb_zero w = le-ltb w 0 (omega arith)

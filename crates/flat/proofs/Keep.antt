@@ -20,12 +20,12 @@ module _ {V W : Type 0} (R : V → W → Type 0) where
   cond_rel true v v' w w' h k = h
   cond_rel false v v' w w' h k = k
 
-  pub getD_rel : (vs : List V) (ws : List W) (v : V) (w : W) → All2 R vs ws → R v w → (k : ℕ) → R (get_or vs k v) (get_or ws k w)
-  getD_rel [] [] v w a r k = r
-  getD_rel [] (y ∷ ws) v w a r k = elim a [ ]
-  getD_rel (x ∷ vs) [] v w a r k = elim a [ ]
-  getD_rel (x ∷ vs) (y ∷ ws) v w a r zero = a.0
-  getD_rel (x ∷ vs) (y ∷ ws) v w a r (suc k) = getD_rel vs ws v w a.1 r k
+  pub get_or_rel : (vs : List V) (ws : List W) (v : V) (w : W) → All2 R vs ws → R v w → (k : ℕ) → R (get_or vs k v) (get_or ws k w)
+  get_or_rel [] [] v w a r k = r
+  get_or_rel [] (y ∷ ws) v w a r k = elim a [ ]
+  get_or_rel (x ∷ vs) [] v w a r k = elim a [ ]
+  get_or_rel (x ∷ vs) (y ∷ ws) v w a r zero = a.0
+  get_or_rel (x ∷ vs) (y ∷ ws) v w a r (suc k) = get_or_rel vs ws v w a.1 r k
 
   take_rel : (n : ℕ) (vs : List V) (ws : List W) → All2 R vs ws → All2 R (take n vs) (take n ws)
   take_rel zero vs ws a = tt
@@ -75,7 +75,7 @@ all_right below wires (o ∷ os) dr fits = ((fits.0.refer, fits.0.pins_in), all_
 
 module _ {V W : Type 0} (K : Kind V) (L : Kind W) (R : V → W → Type 0) (laws : GatesKeep K L R) where
   input_rel : (vs : List V) (ws : List W) → All2 R vs ws → (k : ℕ) → R (input K vs k) (input L ws k)
-  input_rel vs ws a k = getD_rel R vs ws K.low L.low a laws.low k
+  input_rel vs ws a k = get_or_rel R vs ws K.low L.low a laws.low k
 
   own_rel : (m : Module) (below : ℕ → Design) (cs : List V) (ds : List W) → All2 R cs ds → (i : ℕ) → All2 R (own m below cs i) (own m below ds i)
   own_rel m below cs ds a i =

@@ -20,7 +20,7 @@ use Rattle.flat.specs.Runs.{Call, step, set_cell, clear, read, look, refused, St
 use Rattle.flat.specs.FlatRuns.{Flat, refused_by, stepped, FlatOutcome, Wrong, Accepts, FlatPerformed, FlatCall, FlatRun, FlatStart}
 use Rattle.flat.specs.RunLaws.{Fed, fed_step, fed_set, fed_clear, fed_read, fed_look, both_refused, both_stepped, both_done, both_value, Alike, Matches, BothStart, AdmitsThere, Follows, SettledIn, SettledOut, CountsRight, Sized, One, OneFlatRun, LawForPoweredRuns, LawForColdRuns, LawForRuns}
 use Rattle.flat.proofs.Lists.{refer_at}
-use Rattle.flat.proofs.Keep.{keep, getD_rel, append_rel, length_rel}
+use Rattle.flat.proofs.Keep.{keep, get_or_rel, append_rel, length_rel}
 use Rattle.flat.proofs.Walk.{next_length}
 use Rattle.flat.proofs.CellPlaces.{places_length}
 use Rattle.flat.proofs.Settle.{outputs_known, next_known, ins_known}
@@ -106,9 +106,9 @@ module _ {V : Type 0} (K : Kind V) (R : V → Bool → Type 0) (laws : GatesKeep
   performed_rel s f a (fed_read k n) ok o p =
       let l = within k (length (cell_places d)) (λ l. ok 14 (inl (refl, l))) in
       subst (Matches R d (performed K d s (read k n))) (sym p)
-      (record { run = a; answer = both_value _ _ (subst (R (get_or s.cells k K.low)) (get_or-map f.store (cell_places d) k [] false l) (getD_rel R s.cells (cell_bits d f.store) K.low false a.cells laws.low k)) })
+      (record { run = a; answer = both_value _ _ (subst (R (get_or s.cells k K.low)) (get_or-map f.store (cell_places d) k [] false l) (get_or_rel R s.cells (cell_bits d f.store) K.low false a.cells laws.low k)) })
   performed_rel s f a (fed_look k j n t) ok o p =
-      subst (Matches R d (performed K d s (look k j n t))) (sym p) (record { run = a; answer = both_value _ _ (getD_rel R s.tape f.tape K.low false a.tape laws.low (k * length (out_wires d) + j)) })
+      subst (Matches R d (performed K d s (look k j n t))) (sym p) (record { run = a; answer = both_value _ _ (get_or_rel R s.tape f.tape K.low false a.tape laws.low (k * length (out_wires d) + j)) })
 
   carried_rel : (s : Run V) (f : Flat) → Alike R d s f → {c : Call V} {e : Call Bool} → Fed R c e → (o : FlatOutcome) → FlatCall d f e o → (r : ℕ) → Decided r (Wrong d f.cycle e) → Matches R d (carried_out K d s c r) o
   carried_rel s f a {c} {e} h o (inl (m, x, p)) r (inl (z, none)) = absurd (none m x.0)

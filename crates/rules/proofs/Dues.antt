@@ -8,7 +8,7 @@ use Rattle.rules.specs.Refusals.{Verdict, accepted, refused, ◌then◌, asked, 
 use Rattle.rules.specs.Boards.{Module, module_number}
 use Rattle.rules.specs.Records.{number_at, end_of, body, read, after, uses, module_end, module_count, board_shape, module_shape, occurrence_shape, occurrences_read, module_read, modules_read, records_read}
 use Rattle.rules.specs.Judging.{board_of}
-use Rattle.rules.specs.Files.{RecordAt, Laid_out, BoardRange, module_start, occurrence_start}
+use Rattle.rules.specs.Files.{RecordAt, LaidOut, BoardRange, module_start, occurrence_start}
 use Rattle.rules.specs.Rules.{OccurrenceRule, OccurrenceKeeps, occurrence_refusal, ModuleRule, ModuleKeeps, module_refusal}
 use Rattle.rules.specs.Breaks.{DueRecord, a_board, a_module, an_occurrence, kind_of, modules_due, occurrences_due, due_behind, ShapeRight, Due, begin, next, Rank, Before, Breaks, long, cut, wrong_kind, wrong_shape, trail, of_occurrence, of_module, FirstBroken}
 use Rattle.rules.proofs.Verdicts.{accepted_refused, asked_accepted, then_left, then_right, asked_refused}
@@ -164,7 +164,7 @@ BoardBreak board rank e = OccurrenceBreak board rank e ⊎ ModuleBreak board ran
 data LeftOver (f : List ℕ) (at : ℕ) (d : Option DueRecord) (rank : Rank) (e : Refusal) : Type 0 where
   at_record : (due : DueRecord) → Some due ≡ d → (n : ℕ) (e' : Refusal) → Fault f at due n e' → rank ≡ 1 ∷ at ∷ n ∷ [] → LeftOver f at d rank e
   at_trail : d ≡ None → at < length f → rank ≡ 2 ∷ [] → LeftOver f at d rank e
-  at_board : (board : List Module) → Laid_out f board → BoardRange board → BoardBreak board rank e → LeftOver f at d rank e
+  at_board : (board : List Module) → LaidOut f board → BoardRange board → BoardBreak board rank e → LeftOver f at d rank e
 
 left_record : (f : List ℕ) (at at' : ℕ) (d : Option DueRecord) (due : DueRecord) (n : ℕ) (e e' : Refusal) → Due f at d → (Right f at d → ⊥) → Due f at' (Some due) → Fault f at' due n e' → LeftOver f at d (1 ∷ at' ∷ n ∷ []) e
 left_record f at at' d due n e e' D w D' x =

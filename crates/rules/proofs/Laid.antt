@@ -7,7 +7,7 @@ use Rattle.rules.specs.Refusals.{Verdict, accepted, ◌then◌, asked}
 use Rattle.rules.specs.Boards.{Occurrence, Module, no_occurrence, no_module, module_number, sum_of}
 use Rattle.rules.specs.Records.{number_at, end_of, body, read, after, uses, module_end, module_at, module_place, module_count, board_shape, module_shape, occurrence_shape, occurrences_read, module_read, modules_read, records_read, occurrences_in}
 use Rattle.rules.specs.Judging.{PlacedOccurrence, PlacedModule, occurrence_in, occurrence_at, occurrences_of, module_of, placed_at, unit_at, units_at, units_of, unit_no, board_of}
-use Rattle.rules.specs.Files.{word, RecordAt, module_body, OccurrenceBody, occurrence_size, head_size, module_size, module_start, occurrence_start, Laid_out, OccurrenceRange, ModuleRange, BoardRange}
+use Rattle.rules.specs.Files.{word, RecordAt, module_body, OccurrenceBody, occurrence_size, head_size, module_size, module_start, occurrence_start, LaidOut, OccurrenceRange, ModuleRange, BoardRange}
 use Rattle.rules.specs.Breaks.{BoardShape, ModuleShape, OccurrenceShape}
 use Rattle.rules.proofs.Verdicts.{asked_yes, passed, asked_accepted, then_left, then_right}
 use Rattle.rules.proofs.Modules.{length_units, units_more}
@@ -256,7 +256,7 @@ module _ (f : List ℕ) (e : records_read f ≡ accepted) where
   passes_placed k h i l d =
       ap (λ p. p.place) (placed_no f (end_of f (module_place f k)) (uses f (module_place f k)) i d (omega (arith, uses_are f k h))) ∙ passes_occurrence_place k h i (omega arith)
 
-  pub passes_laid_out : Laid_out f (board_of f)
+  pub passes_laid_out : LaidOut f (board_of f)
   passes_laid_out =
       record {
         head_body = body f 0;
@@ -274,7 +274,7 @@ module _ (f : List ℕ) (e : records_read f ≡ accepted) where
 
 -- The records of a board pass
 
-pub laid_out_passes : (f : List ℕ) (board : List Module) → Laid_out f board → BoardRange board → length f ≤ 32768 → (records_read f ≡ accepted) × (board_of f ≡ board)
+pub laid_out_passes : (f : List ℕ) (board : List Module) → LaidOut f board → BoardRange board → length f ≤ 32768 → (records_read f ≡ accepted) × (board_of f ≡ board)
 laid_out_passes f board k g h =
     let b = k.head_body in
     let i = k.head_is in

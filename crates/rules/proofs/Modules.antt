@@ -31,16 +31,16 @@ seen_high f k j h l =
     let e : length (map module_of (drop k (units_of f))) ≡ module_count f - k = length-map (drop k (units_of f)) module_of ∙ length-drop k (units_of f) ∙ ap (λ n. n - k) (length_units f (end_of f 0) (module_count f)) in
     design_high k (map module_of (drop k (units_of f))) j (omega arith)
 
-unit_getD : (f : List ℕ) (at n k : ℕ) (d : PlacedModule) → k < n → get_or (units_at f at n) k d ≡ unit_at f (module_at f at k)
+unit_get_or : (f : List ℕ) (at n k : ℕ) (d : PlacedModule) → k < n → get_or (units_at f at n) k d ≡ unit_at f (module_at f at k)
 unfolding units_at module_at
-unit_getD f at zero k d h = absurd (omega arith)
-unit_getD f at (suc n) zero d h = refl
-unit_getD f at (suc n) (suc k) d h = unit_getD f (module_end f at) n k d (le_of_suc-le-suc h)
+unit_get_or f at zero k d h = absurd (omega arith)
+unit_get_or f at (suc n) zero d h = refl
+unit_get_or f at (suc n) (suc k) d h = unit_get_or f (module_end f at) n k d (le_of_suc-le-suc h)
 
 pub units_more : (f : List ℕ) (k : ℕ) → k < module_count f → drop k (units_of f) ≡ unit_no f k ∷ drop (k + 1) (units_of f)
 units_more f k h =
     drop_more (units_of f) k (unit_no f 0) (omega (arith, length_units f (end_of f 0) (module_count f)))
-    ∙ ap (λ u. u ∷ drop (k + 1) (units_of f)) (unit_getD f (end_of f 0) (module_count f) k (unit_no f 0) h)
+    ∙ ap (λ u. u ∷ drop (k + 1) (units_of f)) (unit_get_or f (end_of f 0) (module_count f) k (unit_no f 0) h)
 
 -- module k with those behind it, as the modules ahead of it see them
 pub seen_more : (f : List ℕ) (k j : ℕ) → k < module_count f → seen_from f k j ≡ cond (eqb j k) (node (module_of (unit_no f k)) (seen_from f (k + 1))) (seen_from f (k + 1) j)

@@ -4,7 +4,7 @@ use Rattle.rules.specs.declared.refusal.Refusal.{Refusal}
 use Rattle.rules.specs.declared.refusal.Refusal.TheVariants.{Long, Cut, Kind, Shape, Trail}
 use Rattle.rules.specs.Refusals.{Verdict, accepted, refused, number_of}
 use Rattle.rules.specs.Boards.{Module, module_number}
-use Rattle.rules.specs.Files.{word, RecordAt, Laid_out, BoardRange, module_start, occurrence_start}
+use Rattle.rules.specs.Files.{word, RecordAt, LaidOut, BoardRange, module_start, occurrence_start}
 use Rattle.rules.specs.Rules.{OccurrenceRule, OccurrenceKeeps, occurrence_refusal, ModuleRule, ModuleKeeps, module_refusal, BoardKeeps}
 use Rattle.rules.specs.Judging.{verdict}
 
@@ -100,8 +100,8 @@ pub data Breaks (f : List ℕ) : Rank → Refusal → Type 0 where
   wrong_shape : (at kind : ℕ) (due : DueRecord) (body : List ℕ) → Due f at (Some due) → RecordAt f at kind body → (ShapeRight due body → ⊥) → Breaks f (1 ∷ at ∷ 4 ∷ []) (Shape at)
   -- nothing more is due, and the file goes on
   trail : (at : ℕ) → Due f at None → at < length f → Breaks f (2 ∷ []) (Trail at)
-  of_occurrence : (board : List Module) (k i : ℕ) (r : OccurrenceRule) → Laid_out f board → BoardRange board → k < length board → i < length (module_number board k).occurrences → (OccurrenceKeeps board k i r → ⊥) → Breaks f (3 ∷ (length board - k) ∷ i ∷ number_of (occurrence_refusal r 0) ∷ []) (occurrence_refusal r (occurrence_start board k i))
-  of_module : (board : List Module) (k : ℕ) (r : ModuleRule) → Laid_out f board → BoardRange board → k < length board → (ModuleKeeps board k r → ⊥) → Breaks f (3 ∷ (length board - k) ∷ length (module_number board k).occurrences ∷ number_of (module_refusal r 0) ∷ []) (module_refusal r (module_start board k))
+  of_occurrence : (board : List Module) (k i : ℕ) (r : OccurrenceRule) → LaidOut f board → BoardRange board → k < length board → i < length (module_number board k).occurrences → (OccurrenceKeeps board k i r → ⊥) → Breaks f (3 ∷ (length board - k) ∷ i ∷ number_of (occurrence_refusal r 0) ∷ []) (occurrence_refusal r (occurrence_start board k i))
+  of_module : (board : List Module) (k : ℕ) (r : ModuleRule) → LaidOut f board → BoardRange board → k < length board → (ModuleKeeps board k r → ⊥) → Breaks f (3 ∷ (length board - k) ∷ length (module_number board k).occurrences ∷ number_of (module_refusal r 0) ∷ []) (module_refusal r (module_start board k))
 
 -- The theorems
 
@@ -109,7 +109,7 @@ pub data Breaks (f : List ℕ) : Rank → Refusal → Type 0 where
 pub record BoardFile (f : List ℕ) : Type 0 where
   pub board : List Module
   pub short : length f ≤ 32768
-  pub laid_out : Laid_out f board
+  pub laid_out : LaidOut f board
   pub range : BoardRange board
   pub keeps : BoardKeeps board
 

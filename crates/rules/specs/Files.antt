@@ -55,7 +55,7 @@ occurrence_start board k i =
     module_start board k + head_size (module_number board k) + sum_of occurrence_size (take i (module_number board k).occurrences)
 
 -- the file is the records of the board, laid end to end
-pub record Laid_out (f : List ℕ) (board : List Module) : Type 0 where
+pub record LaidOut (f : List ℕ) (board : List Module) : Type 0 where
   pub head_body : List ℕ
   pub head : RecordAt f 0 1 head_body
   pub head_is : BoardBody (length board) head_body

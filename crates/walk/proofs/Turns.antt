@@ -20,7 +20,7 @@ use Rattle.walk.specs.declared.reading.Child.{Child}
 use Rattle.walk.specs.Levels.{level_at, placed, advanced, turned, cells_ahead, module_of_level, child_base, child_level, Enterable, Leavable, Opened}
 use Rattle.walk.specs.Shown.{State, Later, After, ChildOf}
 use Rattle.walk.proofs.Bytes
-use Rattle.walk.proofs.Values.{lent_length, lent_getD}
+use Rattle.walk.proofs.Values.{lent_length, lent_get_or}
 use Rattle.walk.proofs.Modules
 use Rattle.walk.proofs.Rows.{outputs_wait}
 use Rattle.walk.proofs.Sim.{level_same}
@@ -139,7 +139,7 @@ module _ {V : Type 0} (K : Kind V) (t : Tables) (right : Right t) (held work : L
   pub gate_on : (c : Level) → level_at ls top ≡ c → (M : Machine V) → Shown M → First c → (g : Gate) → part (here c) ≡ Some (gate g) → (ins outs : List ℕ) → ins ≡ (here c).ins → outs ≡ (here c).outs → (v : V) → v ≡ gate_value K g (map (λ w. get_or (take (length work - c.base) (drop c.base work)) w K.low) ins) → (ls' : List Level) → ls' ≡ set ls top (placed c (c.place + 1)) → State K board held (set work (c.base + get_or outs 0 0) v) ls' (top + 1) (count + 1) (tick K M)
   gate_on c e M s p g eg ins outs ei eo v ev ls' el =
       let b = room c e M s in
-      let rd : (λ w. get_or (take (length work - c.base) (drop c.base work)) w K.low) ≡ (λ w. get_or work (c.base + w) K.low) = fun_ext (λ w. lent_getD work c.base (length work - c.base) w K.low (omega arith) refl) in
+      let rd : (λ w. get_or (take (length work - c.base) (drop c.base work)) w K.low) ≡ (λ w. get_or work (c.base + w) K.low) = fun_ext (λ w. lent_get_or work c.base (length work - c.base) w K.low (omega arith) refl) in
       let ev' : v ≡ gate_value K g (map (λ w. get_or work (c.base + w) K.low) (here c).ins) = ev ∙ ap₂ (λ (q : ℕ → V) (is : List ℕ). gate_value K g (map q is)) rd ei in
       let ew : set work (c.base + get_or outs 0 0) v ≡ writes K c.base (here c).outs (gate_value K g (map (λ w. get_or work (c.base + w) K.low) (here c).ins) ∷ []) work =
       ap₂ (λ (os : List ℕ) (x : V). set work (c.base + get_or os 0 0) x) eo ev' ∙ sym (one_write K c.base (here c).outs _ work (lone_out c (level_there c e M s).1 p g eg)) in

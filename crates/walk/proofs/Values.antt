@@ -15,8 +15,8 @@ lent xs a k h e = take_all k (drop a xs) (omega (arith, length-drop a xs))
 pub lent_length : {X : Type 0} (xs : List X) (a k : ℕ) → a ≤ length xs → k ≡ length xs - a → length (take k (drop a xs)) ≡ length xs - a
 lent_length xs a k h e = ap length (lent xs a k h e) ∙ length-drop a xs
 
-pub lent_getD : {X : Type 0} (xs : List X) (a k j : ℕ) (d : X) → a ≤ length xs → k ≡ length xs - a → get_or (take k (drop a xs)) j d ≡ get_or xs (a + j) d
-lent_getD xs a k j d h e = ap (λ p. get_or p j d) (lent xs a k h e) ∙ get_or-drop a xs j d
+pub lent_get_or : {X : Type 0} (xs : List X) (a k j : ℕ) (d : X) → a ≤ length xs → k ≡ length xs - a → get_or (take k (drop a xs)) j d ≡ get_or xs (a + j) d
+lent_get_or xs a k j d h e = ap (λ p. get_or p j d) (lent xs a k h e) ∙ get_or-drop a xs j d
 
 -- a part of the pins
 pub part_length : {X : Type 0} (ps : List X) (a n : ℕ) → a + n ≤ length ps → length (take n (drop a ps)) ≡ n

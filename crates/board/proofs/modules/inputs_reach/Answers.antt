@@ -2,11 +2,11 @@ use Rattle.std.proofs.Common.{◌&&◌, eqb, set, sym, refl, ap, ◌∙◌, arit
 use Rattle.std.proofs.lemmas.Nat.{one_shl}
 use Rattle.board.specs.WireTables.{bit, reaches}
 use Rattle.board.proofs.Pins.{bit_zero}
-use Rattle.board.proofs.Inputs.{reach_more, getD_blank, ltb_zero}
+use Rattle.board.proofs.Inputs.{reach_more, get_or_blank, ltb_zero}
 use Rattle.board.proofs.modules.inputs_reach.Goals as goal
 
 pub loop-i-init : goal.loop-i-init
-loop-i-init c = (refl, λ w x. ap (λ n. bit n x) (getD_blank 0 256 w) ∙ bit_zero x ∙ ap (λ b. b && eqb w x) (sym (ltb_zero w)))
+loop-i-init c = (refl, λ w x. ap (λ n. bit n x) (get_or_blank 0 256 w) ∙ bit_zero x ∙ ap (λ b. b && eqb w x) (sym (ltb_zero w)))
 
 pub loop-i-preserved : goal.loop-i-preserved
 loop-i-preserved c =
