@@ -12,10 +12,9 @@ fn input_value<K: Signal>(wires: &[K], ins: &[u8], k: usize) -> K
     requires { (j : ℕ) → j < length ins.now → slice_index ins.now j < length wires.now }
     ensures { result ≡ input K.Signal.kind (map (λ w. get_or wires.now w K.Signal.kind.low) ins.now) k }
 {
-    if k < ins.len() {
-        wires[ins[k] as usize]
-    } else {
-        K::low()
+    match ins.get(k) {
+        Some(wire) => wires[*wire as usize],
+        None => K::low(),
     }
 }
 
@@ -30,11 +29,12 @@ pub(crate) fn gate_output<K: Signal>(gate: Gate, ins: &[u8], wires: &[K]) -> K
     signal::evaluate(gate, a, b, c)
 }
 
+// Stays: `wires.fill(K::low())` requires a clone that cannot fail, which `Signal` does not promise of a kind.
 fn lower<K: Signal>(wires: &mut [K])
     ensures { wires.new ≡ map (λ _. K.Signal.kind.low) wires.old }
 {
-    for w in wires.iter_mut() {
-        *w = K::low();
+    for wire in wires.iter_mut() {
+        *wire = K::low();
     }
 }
 
@@ -45,12 +45,10 @@ pub(crate) fn open<K: Signal>(work: &mut [K], base: usize, ins: &[u8], child: us
     requires ins { (j : ℕ) → j < length ins.now → base + slice_index ins.now j < child }
     ensures { Opened K.Signal.kind base ins.now child wires work.old work.new }
 {
-    let end = child + wires;
-    lower(&mut work[child..end]);
-    for k in 0..ins.len() {
-        let value = work[base + ins[k] as usize];
-        work[child + k] = value;
+    for (k, pin) in ins.iter().enumerate() {
+        work[child + k] = work[base + *pin as usize];
     }
+    lower(&mut work[child + ins.len()..child + wires]);
 }
 
 // The top's window at its start: the inputs, and low behind them.
@@ -60,11 +58,8 @@ pub(crate) fn open_top<K: Signal>(work: &mut [K], inputs: &[K], wires: usize)
     ensures given { (k : ℕ) → k < length inputs.now → slice_index_or work.new k K.Signal.kind.low ≡ slice_index_or inputs.now k K.Signal.kind.low }
     ensures rest { (k : ℕ) → length inputs.now ≤ k → k < wires → slice_index_or work.new k K.Signal.kind.low ≡ K.Signal.kind.low }
 {
-    lower(&mut work[0..wires]);
-    for k in 0..inputs.len() {
-        let value = inputs[k];
-        work[k] = value;
-    }
+    work[..inputs.len()].copy_from_slice(inputs);
+    lower(&mut work[inputs.len()..wires]);
 }
 
 // Hands the values on the wires `outs` of a window to the wires `pins` of its parent's, which begins at `to`.
@@ -74,9 +69,8 @@ pub(crate) fn hand_up<K: Signal>(work: &mut [K], base: usize, outs: &[u8], to: u
     requires apart { (j : ℕ) → j < length pins.now → to + slice_index pins.now j < base }
     ensures { work.new ≡ writes K.Signal.kind to pins.now (map (λ w. get_or work.old (base + w) K.Signal.kind.low) outs.now) work.old }
 {
-    for k in 0..outs.len() {
-        let value = work[base + outs[k] as usize];
-        work[to + pins[k] as usize] = value;
+    for (pin, out) in pins.iter().zip(outs) {
+        work[to + *pin as usize] = work[base + *out as usize];
     }
 }
 
@@ -86,8 +80,7 @@ pub(crate) fn deliver<K: Signal>(work: &[K], outs: &[u8], outputs: &mut [K])
     requires reads { (j : ℕ) → j < length outs.now → slice_index outs.now j < length work.now }
     ensures { outputs.new ≡ map (λ w. get_or work.now w K.Signal.kind.low) outs.now }
 {
-    for k in 0..outs.len() {
-        let value = work[outs[k] as usize];
-        outputs[k] = value;
+    for (k, output) in outputs.iter_mut().enumerate() {
+        *output = work[outs[k] as usize];
     }
 }
