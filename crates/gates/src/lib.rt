@@ -30,6 +30,7 @@ pub enum Part {
 
 impl Part {
     // What a reference number stands for, if for anything.
+    // Stays: `as` goes from a variant to its number and not back, so `TryFrom<u16>` would be this same `match`.
     pub fn of_reference(reference: u16) -> Option<Part>
         ensures { result ≡ part_of reference }
     {
