@@ -1,5 +1,5 @@
 -- The gates keep to the truth table, on bits and on any kind that keeps the rules.
-use Rattle.std.proofs.Common.{◌≡◌, ℕ, zero, suc, ◌<◌, Bool, true, false, List, [], ◌∷◌, map, length, get_or, take, sym, refl, ap, ◌∙◌, subst, ap₂, arith, lit<, get_or-take}
+use Rattle.std.proofs.Common.{◌≡◌, ℕ, zero, suc, ◌<◌, Bool, true, false, List, [], ◌∷◌, map, length, get_or, take, sym, refl, ap, ◌∙◌, subst, arith, get_or-take}
 use Rattle.gates.specs.declared.Gate.{Gate}
 use Rattle.gates.specs.declared.Gate.TheVariants.{Low, High, Buf, Not, And, Or, Xor, Nand, Nor, Xnor, Pick}
 use Rattle.gates.specs.Gates.{inputs_of, gate_bit}
@@ -9,81 +9,17 @@ use Rattle.signal.specs.GateValues.{input, gate_value, GatesOnBits, AllAdmit, Al
 
 -- Bits
 
-OnBits : Gate → List Bool → Type 0
-OnBits g bs = gate_value bits g bs ≡ gate_bit g bs
-
-one : (P : Bool → Type 0) → P true → P false → (a : Bool) → P a
-one P t f true = t
-one P t f false = f
-
-two : (P : Bool → Bool → Type 0) → P true true → P true false → P false true → P false false → (a b : Bool) → P a b
-two P tt tf ft ff true = one (P true) tt tf
-two P tt tf ft ff false = one (P false) ft ff
-
-with_0 : (P : List Bool → Type 0) → P [] → (bs : List Bool) → length bs ≡ 0 → P bs
-with_0 P h [] e = h
-with_0 P h (a ∷ bs) e = absurd (omega arith)
-
-with_1 : (P : List Bool → Type 0) → ((a : Bool) → P (a ∷ [])) → (bs : List Bool) → length bs ≡ 1 → P bs
-with_1 P h [] e = absurd (omega arith)
-with_1 P h (a ∷ bs) e = with_0 (λ cs. P (a ∷ cs)) (h a) bs (omega arith)
-
-with_2 : (P : List Bool → Type 0) → ((a b : Bool) → P (a ∷ b ∷ [])) → (bs : List Bool) → length bs ≡ 2 → P bs
-with_2 P h [] e = absurd (omega arith)
-with_2 P h (a ∷ bs) e = with_1 (λ cs. P (a ∷ cs)) (h a) bs (omega arith)
-
-with_3 : (P : List Bool → Type 0) → ((a b c : Bool) → P (a ∷ b ∷ c ∷ [])) → (bs : List Bool) → length bs ≡ 3 → P bs
-with_3 P h [] e = absurd (omega arith)
-with_3 P h (a ∷ bs) e = with_2 (λ cs. P (a ∷ cs)) (h a) bs (omega arith)
-
 pub gates_on_bits : GatesOnBits
-unfolding OnBits
-gates_on_bits Low = with_0 (OnBits Low) refl
-gates_on_bits High = with_0 (OnBits High) refl
-gates_on_bits Buf = with_1 (OnBits Buf) (one (λ a. OnBits Buf (a ∷ [])) refl refl)
-gates_on_bits Not = with_1 (OnBits Not) (one (λ a. OnBits Not (a ∷ [])) refl refl)
-gates_on_bits And = with_2 (OnBits And) (two (λ a b. OnBits And (a ∷ b ∷ [])) refl refl refl refl)
-gates_on_bits Or = with_2 (OnBits Or) (two (λ a b. OnBits Or (a ∷ b ∷ [])) refl refl refl refl)
-gates_on_bits Xor = with_2 (OnBits Xor) (two (λ a b. OnBits Xor (a ∷ b ∷ [])) refl refl refl refl)
-gates_on_bits Nand = with_2 (OnBits Nand) (two (λ a b. OnBits Nand (a ∷ b ∷ [])) refl refl refl refl)
-gates_on_bits Nor = with_2 (OnBits Nor) (two (λ a b. OnBits Nor (a ∷ b ∷ [])) refl refl refl refl)
-gates_on_bits Xnor = with_2 (OnBits Xnor) (two (λ a b. OnBits Xnor (a ∷ b ∷ [])) refl refl refl refl)
-gates_on_bits Pick = with_3 (OnBits Pick) (one (λ a. (b c : Bool) → OnBits Pick (a ∷ b ∷ c ∷ []))
-    (two (λ b c. OnBits Pick (true ∷ b ∷ c ∷ [])) refl refl refl refl)
-    (two (λ b c. OnBits Pick (false ∷ b ∷ c ∷ [])) refl refl refl refl))
+gates_on_bits g [] e = grind arith
+gates_on_bits g (a ∷ []) e = grind arith
+gates_on_bits g (a ∷ b ∷ []) e = grind arith
+gates_on_bits g (a ∷ b ∷ c ∷ []) e = grind arith
+gates_on_bits g (a ∷ b ∷ c ∷ d ∷ bs) e = grind arith
 
 module _ {V : Type 0} (k : Kind V) where
-  -- a gate reads no more than its first three inputs
-  pub gate_value_reads : (g : Gate) (vs : List V) → gate_value k g vs ≡ gate_value k g (input k vs 0 ∷ input k vs 1 ∷ input k vs 2 ∷ [])
-  gate_value_reads Low vs = refl
-  gate_value_reads High vs = refl
-  gate_value_reads Buf vs = refl
-  gate_value_reads Not vs = refl
-  gate_value_reads And vs = refl
-  gate_value_reads Or vs = refl
-  gate_value_reads Xor vs = refl
-  gate_value_reads Nand vs = refl
-  gate_value_reads Nor vs = refl
-  gate_value_reads Xnor vs = refl
-  gate_value_reads Pick vs = refl
-
   -- a gate reads its inputs and nothing else
   pub gate_value_same : (g : Gate) (vs ws : List V) → ((i : ℕ) → i < inputs_of g → input k vs i ≡ input k ws i) → gate_value k g vs ≡ gate_value k g ws
-  gate_value_same Low vs ws h = refl
-  gate_value_same High vs ws h = refl
-  gate_value_same Buf vs ws h = h 0 (lit< tt)
-  gate_value_same Not vs ws h = ap k.not (h 0 (lit< tt))
-  gate_value_same And vs ws h = ap₂ k.and (h 0 (lit< tt)) (h 1 (lit< tt))
-  gate_value_same Or vs ws h = ap₂ k.or (h 0 (lit< tt)) (h 1 (lit< tt))
-  gate_value_same Xor vs ws h = ap₂ k.xor (h 0 (lit< tt)) (h 1 (lit< tt))
-  gate_value_same Nand vs ws h = ap k.not (ap₂ k.and (h 0 (lit< tt)) (h 1 (lit< tt)))
-  gate_value_same Nor vs ws h = ap k.not (ap₂ k.or (h 0 (lit< tt)) (h 1 (lit< tt)))
-  gate_value_same Xnor vs ws h = ap k.not (ap₂ k.xor (h 0 (lit< tt)) (h 1 (lit< tt)))
-  gate_value_same Pick vs ws h =
-      let a = h 0 (lit< tt) in
-      let b = h 1 (lit< tt) in
-      let c = h 2 (lit< tt) in
-      cc (a, b, c)
+  gate_value_same g vs ws h = grind arith
 
   pub gate_value_take : (g : Gate) (vs : List V) → gate_value k g (take (inputs_of g) vs) ≡ gate_value k g vs
   gate_value_take g vs = gate_value_same g (take (inputs_of g) vs) vs (λ i l. get_or-take (inputs_of g) vs i k.low l)

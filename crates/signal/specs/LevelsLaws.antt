@@ -1,25 +1,18 @@
 -- Three levels keep the rules of a kind.
 use Rattle.std.specs.Prelude.{◌≡◌, Bool, true, false, cond, not, ◌&&◌, ◌||◌, ◌↔◌, Some, refl}
-use Rattle.std.proofs.lemmas.Bool.{and_parts}
+use Rattle.std.proofs.Common.{arith}
 use Rattle.signal.specs.declared.levels.Level.{Level}
 use Rattle.signal.specs.declared.levels.Level.TheVariants.{Zero, One, Unknown}
 use Rattle.signal.specs.Kinds.{Lawful, Situation, differ, Settled, Only, Admits, AdmitsBoth, Follows1, Follows2, Follows3, Settles1, Settles2, Settles3}
 use Rattle.signal.specs.Levels.{levels, every_filling, agreed, by_filling, by_fillings, pick_level, told_level, admits_level}
-use Rattle.signal.specs.Situations.{row_0, not_both, not_both', same_some, never_some, none_otherwise}
+use Rattle.signal.specs.Situations.{row_0, not_both, none_otherwise}
 
 -- what holds of every filling holds of the bits admitted
 at : (s : Situation) (v : Level) (p : Bool → Bool) (a : Bool) → admits_level v s a ≡ true → every_filling v p ≡ true → p a ≡ true
-at s Zero p true h e = not_both' h
-at s Zero p false h e = e
-at s One p true h e = e
-at s One p false h e = not_both' h
-at s Unknown p true h e = (and_parts (p false) (p true) e).1
-at s Unknown p false h e = (and_parts (p false) (p true) e).0
+at s v p a h e = grind arith
 
 agreed_admits : (s : Situation) (x y c : Bool) → (x ≡ true → c ≡ true) → (y ≡ true → not c ≡ true) → admits_level (agreed x y) s c ≡ true
-agreed_admits s true y c h k = h refl
-agreed_admits s false true c h k = k refl
-agreed_admits s false false c h k = refl
+agreed_admits s x y c h k = grind arith
 
 by_filling_follows : (f : Bool → Bool) → Follows1 levels (by_filling f) f
 by_filling_follows f s v a h = agreed_admits s _ _ (f a) (at s v f a h) (at s v (λ a. not (f a)) a h)
@@ -31,11 +24,7 @@ by_fillings_follows f s v w a b h k =
     (λ e. at s w (λ b. not (f a b)) b k (at s v (λ a. every_filling w (λ b. not (f a b))) a h e))
 
 pick_level_follows : Follows3 levels pick_level cond
-pick_level_follows s Zero w x true b c h k l = not_both' h
-pick_level_follows s Zero w x false b c h k l = l
-pick_level_follows s One w x true b c h k l = k
-pick_level_follows s One w x false b c h k l = not_both' h
-pick_level_follows s Unknown w x a b c h k l = refl
+pick_level_follows s v w x a b c h k l = grind arith
 
 -- a level is settled where it is 0 or 1
 agreed_settled : (s : Situation) (c : Bool) → Settled levels (agreed c (not c)) s
@@ -66,11 +55,11 @@ some_bit One s = (true, refl)
 some_bit Unknown s = (true, refl)
 
 told_bit : (v : Level) (b : Bool) → (told_level v ≡ Some b) ↔ ((s : Situation) → Only levels v s b)
-told_bit Zero true = (λ e. not_both' (same_some false true e), λ h. not_both' (h row_0).0)
+told_bit Zero true = (λ e. cc, λ h. let z = (h row_0).0 in cc)
 told_bit Zero false = (λ e s. (refl, refl), λ h. refl)
 told_bit One true = (λ e s. (refl, refl), λ h. refl)
-told_bit One false = (λ e. not_both (same_some true false e), λ h. not_both' (h row_0).0)
-told_bit Unknown b = (λ e. never_some b e, λ h. not_both (h row_0).1)
+told_bit One false = (λ e. cc, λ h. let z = (h row_0).0 in cc)
+told_bit Unknown b = (λ e. cc, λ h. let z = (h row_0).1 in cc)
 
 pub levels_lawful : Lawful levels
 levels_lawful = record {

@@ -3,7 +3,8 @@ use Rattle.std.specs.Prelude.{◌≡◌, ℕ, zero, suc, ◌-◌, ◌*◌, ◌/�
 use Rattle.std.proofs.Common.{sym, ◌∙◌, ap, inl, inr, one-add, arith}
 use Rattle.std.specs.Int.Bits.{xor_add_and}
 use Rattle.std.proofs.lemmas.Nat.{mod_below, shr_below, pow_pos, shr_split, and_shr, or_shr, xor_shr, and_mod, or_mod, xor_mod, and_mask, xor_lt}
-use Rattle.std.proofs.lemmas.Bool.{and_parts, or_parts, cases_Bool, cases_eq, eq-eqb, ne_eqb}
+use Rattle.std.proofs.lemmas.Bool.Decides.{nat_tests}
+use Rattle.std.proofs.lemmas.Bool.{and_parts, or_parts, cases_Bool, eq-eqb, ne_eqb}
 use Rattle.signal.specs.Kinds.{differ}
 use Rattle.signal.specs.Sets.{has, some_below, each_below}
 use Rattle.signal.specs.Rows.{not_rows}
@@ -43,7 +44,7 @@ has_xor = by_bits bit_xor differ xor_shr xor_mod (on_digits bit_xor differ refl 
 
 -- below a bound: the last number, or an earlier one
 last : (k n : ℕ) → k < suc n → (k < n) ⊎ (k ≡ n)
-last k n h = elim (cases_eq k n) [ inl e ↦ inr e | inr ne ↦ inl (omega arith) ]
+last k n h = grind arith
 
 pub none_at : (n : ℕ) (p : ℕ → Bool) → some_below n p ≡ false → (k : ℕ) → k < n → p k ≡ false
 unfolding some_below
@@ -71,9 +72,7 @@ each_all (suc n) p h = rw (each_all n p (λ k l. h k (omega arith)), h n (omega 
 
 -- a number below 2 ^ n with no bit below n is 0
 small_bit : (q : ℕ) → q < 2 → (q % 2 == 1) ≡ false → q ≡ 0
-small_bit zero h e = refl
-small_bit (suc zero) h e = not_both e
-small_bit (suc (suc q)) h e = absurd (omega arith)
+small_bit q h e = grind (arith, nat_tests)
 
 no_bits : (n v : ℕ) → v < 2 ^ n → some_below n (has v) ≡ false → v ≡ 0
 unfolding some_below
@@ -95,8 +94,7 @@ full = each_at 64 (has 0xffff_ffff_ffff_ffff) refl
 
 -- the complement, by its bits and as the program computes it
 differ_true : (a : Bool) → differ a true ≡ not a
-differ_true true = refl
-differ_true false = refl
+differ_true a = grind arith
 
 pub has_not : (v k : ℕ) → k < 64 → has (not_rows v) k ≡ not (has v k)
 has_not v k h = has_xor v 0xffff_ffff_ffff_ffff k ∙ ap (differ (has v k)) (full k h) ∙ differ_true (has v k)

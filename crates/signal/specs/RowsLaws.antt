@@ -1,10 +1,10 @@
 -- Rows keep the rules of a kind.
 use Rattle.std.specs.Prelude.{◌≡◌, ℕ, ◌<◌, Bool, true, false, cond, not, ◌&&◌, ◌||◌, ◌↔◌, Some, None, bit_and, bit_or, bit_xor, refl}
-use Rattle.std.proofs.Common.{sym, ◌∙◌, ap, ap₂, lit<}
+use Rattle.std.proofs.Common.{sym, ◌∙◌, ap, ap₂, arith, lit<}
 use Rattle.signal.specs.Kinds.{Lawful, Situation, differ, Settled, Only, Admits}
 use Rattle.signal.specs.Sets.{has, some_below, each_below}
 use Rattle.signal.specs.Rows.{rows, told_rows, not_rows}
-use Rattle.signal.specs.Situations.{row_0, at_row, not_both, not_both', same_some, never_some, beq_self, beq_not, beq_is, none_otherwise}
+use Rattle.signal.specs.Situations.{row_0, at_row, not_both, not_both', beq_self, beq_not, beq_is, none_otherwise}
 use Rattle.signal.specs.Numbers.{has_and, has_or, has_xor, has_not, full, none, none_at, each_at, none_all, each_all}
 
 -- a row of a number admits its bit alone
@@ -18,9 +18,7 @@ settled : (v : ℕ) (s : Situation) → Settled rows v s
 settled v s = (has v s.row, one_bit v s _ refl)
 
 pick_bit : (a b c : Bool) → ((a && b) || (not a && c)) ≡ cond a b c
-pick_bit true true c = refl
-pick_bit true false c = refl
-pick_bit false b c = refl
+pick_bit a b c = grind arith
 
 has_pick : (v w x k : ℕ) → k < 64 → has (rows.pick v w x) k ≡ cond (has v k) (has w k) (has x k)
 has_pick v w x k h =
@@ -31,10 +29,10 @@ has_pick v w x k h =
 -- what is told, by cases on whether each bit is 1 and whether some bit is
 told_cases : (v : ℕ) (e s b : Bool) → each_below 64 (has v) ≡ e → some_below 64 (has v) ≡ s → (cond e (Some true) (cond s None (Some false)) ≡ Some b) ↔ ((r : Situation) → Only rows v r b)
 told_cases v true s true p q = (λ t r. one_bit v r true (each_at 64 (has v) p r.row r.row_small), λ h. refl)
-told_cases v true s false p q = (λ t. not_both (same_some true false t), λ h. not_both (sym (each_at 64 (has v) p 0 (lit< tt)) ∙ bit_is v row_0 _ (h row_0).0))
-told_cases v false true true p q = (λ t. never_some true t, λ h. not_both' (sym p ∙ each_all 64 (has v) (λ k l. bit_is v (at_row k l) _ (h (at_row k l)).0)))
-told_cases v false true false p q = (λ t. never_some false t, λ h. not_both (sym q ∙ none_all 64 (has v) (λ k l. bit_is v (at_row k l) _ (h (at_row k l)).0)))
-told_cases v false false true p q = (λ t. not_both' (same_some false true t), λ h. not_both' (sym (none_at 64 (has v) q 0 (lit< tt)) ∙ bit_is v row_0 _ (h row_0).0))
+told_cases v true s false p q = (λ t. cc, λ h. not_both (sym (each_at 64 (has v) p 0 (lit< tt)) ∙ bit_is v row_0 _ (h row_0).0))
+told_cases v false true true p q = (λ t. cc, λ h. not_both' (sym p ∙ each_all 64 (has v) (λ k l. bit_is v (at_row k l) _ (h (at_row k l)).0)))
+told_cases v false true false p q = (λ t. cc, λ h. not_both (sym q ∙ none_all 64 (has v) (λ k l. bit_is v (at_row k l) _ (h (at_row k l)).0)))
+told_cases v false false true p q = (λ t. cc, λ h. not_both' (sym (none_at 64 (has v) q 0 (lit< tt)) ∙ bit_is v row_0 _ (h row_0).0))
 told_cases v false false false p q = (λ t r. one_bit v r false (none_at 64 (has v) q r.row r.row_small), λ h. refl)
 
 told_bit : (v : ℕ) (b : Bool) → (told_rows v ≡ Some b) ↔ ((s : Situation) → Only rows v s b)

@@ -1,6 +1,6 @@
 -- Situations to try a value in, and cases that cannot be.
 use Rattle.std.specs.Prelude.{◌≡◌, ℕ, ◌<◌, Bool, true, false, not, ◌↔◌, Some, None, Option, nat_lt, refl}
-use Rattle.std.proofs.Common.{sym, lit<}
+use Rattle.std.proofs.Common.{arith, lit<}
 use Rattle.std.specs.Bool.{beq}
 use Rattle.std.proofs.lemmas.Bool.{true≢false, false≢true, ltb-true}
 use Rattle.signal.specs.Kinds.{Kind, Situation, Only}
@@ -20,25 +20,14 @@ row_0 = at_row 0 (lit< tt)
 abbrev pub all_marks : Situation
 all_marks = record { row = 0; row_small = lit< tt; marks = λ m. nat_lt m 64; marks_small = λ m e. ltb-true m 64 e }
 
-pub same_some : (a b : Bool) → Some a ≡ Some b → a ≡ b
-same_some a b e = cc
-
-pub never_some : {A : Type 0} (b : Bool) → None ≡ Some b → A
-never_some b e = let z : true ≡ false = cc in not_both z
-
 pub beq_self : (a : Bool) → beq a a ≡ true
-beq_self true = refl
-beq_self false = refl
+beq_self a = grind arith
 
 pub beq_not : (a : Bool) → beq a (not a) ≡ false
-beq_not true = refl
-beq_not false = refl
+beq_not a = grind arith
 
 pub beq_is : (a b : Bool) → beq a b ≡ true → a ≡ b
-beq_is true true h = refl
-beq_is true false h = sym h
-beq_is false true h = h
-beq_is false false h = refl
+beq_is a b h = grind arith
 
 -- where no bit stands alone in every situation, none is told
 pub none_otherwise : {V : Type 0} (k : Kind V) (v : V)

@@ -12,7 +12,6 @@ pub mod bits;
 pub mod levels;
 pub mod marks;
 pub mod rows;
-mod sets;
 
 pub trait Signal: Copy {
     // The letter that names the kind: B, T, R or M.

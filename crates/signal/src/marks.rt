@@ -2,16 +2,24 @@
 ghost use Rattle.std.specs.Prelude.{◌≡◌, bit_or};
 ghost use Rattle.signal.specs.Marked.{marked, with_marks};
 ghost use Rattle.signal.specs.MarkedLaws.{marked_lawful, marked_open};
+ghost use Rattle.signal.specs.Sets.{has, some_below};
 
-use super::sets::any_bit;
 use super::{Signal, WithUnknown};
 
+// Stays: a proof does not know the value of an associated constant of a generic impl, so `kind_letter` reads this one.
 const LETTER: char = 'M';
 
 #[derive(Clone, Copy, PartialEq, Eq, Debug)]
 pub struct Marks<K> {
     pub below: K,
     pub marks: u64,
+}
+
+// Whether a set has a mark.
+fn has_mark(marks: u64) -> bool
+    ensures { result ≡ some_below 64 (has marks) }
+{
+    marks != 0
 }
 
 // A value under the marks of two operands.
@@ -76,10 +84,10 @@ impl<K: Signal> Signal for Marks<K> {
     }
 
     fn told(self) -> Option<bool> {
-        match self.below.told() {
-            Some(_) if any_bit(self.marks) => None,
-            Some(bit) => Some(bit),
-            None => None,
+        if has_mark(self.marks) {
+            None
+        } else {
+            self.below.told()
         }
     }
 }

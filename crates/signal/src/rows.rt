@@ -3,7 +3,6 @@ ghost use Rattle.signal.specs.Rows.{rows as the_rows};
 ghost use Rattle.signal.specs.RowsLaws.{rows_lawful};
 
 use super::Signal;
-use super::sets::{any_bit, every_bit};
 
 impl Signal for u64 {
     const LETTER: char = 'R';
@@ -45,12 +44,10 @@ impl Signal for u64 {
     }
 
     fn told(self) -> Option<bool> {
-        if every_bit(self) {
-            Some(true)
-        } else if any_bit(self) {
-            None
-        } else {
-            Some(false)
+        match self {
+            0 => Some(false),
+            u64::MAX => Some(true),
+            _ => None,
         }
     }
 }

@@ -1,6 +1,6 @@
 use Rattle.std.proofs.Common.{arith}
 use Rattle.signal.specs.Numbers.{any_is}
-use Rattle.signal.proofs.sets.any_bit.Goals as goal
+use Rattle.signal.proofs.marks.has_mark.Goals as goal
 
 pub returns : goal.returns
-returns c = any_is c.args.v (omega arith)
+returns c = any_is c.args.marks (omega arith)
