@@ -11,7 +11,7 @@ use Rattle.rules.specs.Judging.{board_of}
 use Rattle.rules.specs.Files.{RecordAt, LaidOut, BoardRange, module_start, occurrence_start}
 use Rattle.rules.specs.Rules.{OccurrenceRule, OccurrenceKeeps, occurrence_refusal, ModuleRule, ModuleKeeps, module_refusal}
 use Rattle.rules.specs.Breaks.{DueRecord, a_board, a_module, an_occurrence, kind_of, modules_due, occurrences_due, due_behind, ShapeRight, Due, begin, next, Rank, Before, Breaks, long, cut, wrong_kind, wrong_shape, trail, of_occurrence, of_module, FirstBroken}
-use Rattle.rules.proofs.Verdicts.{accepted_refused, asked_accepted, then_left, then_right, asked_refused}
+use Rattle.rules.proofs.Verdicts.{asked_accepted, then_left, then_right, asked_refused}
 use Rattle.rules.proofs.LaidRecords.{found, whole, framed_record, read_record, shape_of, shape_right, right_shape}
 use Rattle.rules.proofs.Laid.{passes_short, laid_out_passes}
 
@@ -213,7 +213,7 @@ module _ (f : List ℕ) (h : length f ≤ 32768) where
               let w = t.first n e'' (subst (λ d. Fault f at d n e'') z y) in
               let v = subst (λ o. Before o (1 ∷ at ∷ t.number ∷ [])) r l in
               omega (arith, w, v)
-          | at_trail q m r ↦ let z : ◌≡◌ {A = ℕ} 0 1 = cc in omega arith
+          | at_trail q m r ↦ cc
           | at_board board o g k ↦ board_late board other e' k 1 _ (omega arith) l
         ];
       }
@@ -224,7 +224,7 @@ module _ (f : List ℕ) (h : length f ≤ 32768) where
         rank = 2 ∷ [];
         broken = trail at D m;
         first = λ other e' b l. elim (left_over f D (λ w. w) h b) [
-          | at_record due q n e'' y r ↦ let z : ◌≡◌ {A = ℕ} 0 1 = cc in omega arith
+          | at_record due q n e'' y r ↦ cc
           | at_trail q m' r ↦ let z = subst (λ o. Before o (2 ∷ [])) r l in omega arith
           | at_board board o g k ↦ board_late board other e' k 2 _ (omega arith) l
         ];
@@ -260,7 +260,7 @@ module _ (f : List ℕ) where
 module _ (f : List ℕ) (h : length f ≤ 32768) (e : Refusal) where
   occurrences_first : (n at modules : ℕ) → Due f at (occurrences_due n modules) → occurrences_read f at n ≡ refused e → FirstBroken f e
   unfolding occurrences_read
-  occurrences_first zero at modules D x = absurd (accepted_refused e x)
+  occurrences_first zero at modules D x = cc
   occurrences_first (suc n) at modules D x =
       elim (then_refused (read f at 3 occurrence_shape) _ e x) [
         | inl r ↦ first_record f h at (an_occurrence n modules) e D r
@@ -303,7 +303,7 @@ records_break f x rank e b =
     let c = then_right (asked (leb (length f) 32768) Long) _ x in
     let D = modules_on f (module_count f) (end_of f 0) (due_on f 0 a_board begin (then_left (read f 0 1 board_shape) _ c)) (then_right (read f 0 1 board_shape) _ c) in
     elim (left_over f D (λ w. w) h b) [
-      | at_record due q n e'' y r ↦ let z : ◌≡◌ {A = ℕ} 0 1 = cc in absurd (omega arith)
+      | at_record due q n e'' y r ↦ cc
       | at_trail q m r ↦ absurd (omega arith)
       | at_board board o g k ↦ subst (λ bs. BoardBreak bs rank e) (sym (laid_out_passes f board o g h).1) k
     ]

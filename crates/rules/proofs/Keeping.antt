@@ -1,8 +1,9 @@
 -- Each test is its rule in words, and the verdict on the modules is that of the first rule broken.
-use Rattle.std.proofs.Common.{◌≡◌, ℕ, zero, suc, ◌+◌, ◌-◌, ◌<◌, ◌≤◌, Bool, true, false, cond, not, ◌&&◌, eqb, ltb, leb, ◌⊎◌, ◌↔◌, List, [], ◌∷◌, map, length, get_or, take, drop, Some, None, Option, sym, refl, ap, ◌∙◌, subst, inl, inr, suc-le-suc, le_of_suc-le-suc, not-suc-le-zero, zero-add, arith, drop-cons}
+use Rattle.std.proofs.Common.{◌≡◌, ℕ, zero, suc, ◌+◌, ◌-◌, ◌<◌, ◌≤◌, Bool, true, false, not, ◌&&◌, eqb, ltb, leb, ◌⊎◌, ◌↔◌, List, [], ◌∷◌, map, length, get_or, take, drop, Some, None, Option, sym, refl, ap, ◌∙◌, subst, inl, inr, suc-le-suc, le_of_suc-le-suc, not-suc-le-zero, arith, drop-cons}
 use lib.ListN.{length-map}
 use Rattle.std.proofs.lemmas.List.{take_all, drop_all, drop-drop, drop-map, get_or-map}
-use Rattle.std.proofs.lemmas.Bool.{eqb-true, eq-eqb, ne_eqb, leb-true, le-leb, ltb-true, lt-ltb, le-ltb, and_parts, and_from, not-true, not_from_false, both_ways, cases_eq, cases_lt, cases_Bool, cond-true, cond-false}
+use Rattle.std.proofs.lemmas.Bool.Decides.{Decides-and, Decides-eqb, Decides-ltb, nat_tests}
+use Rattle.std.proofs.lemmas.Bool.{eqb-true, eq-eqb, leb-true, le-leb, ltb-true, lt-ltb, le-ltb, and_parts, and_from, not-true, not_from_false, both_ways, cases_eq, cases_lt, cases_Bool, cond-true, cond-false}
 use Rattle.gates.specs.declared.Part.{Part}
 use Rattle.gates.specs.declared.Part.TheVariants.{Gate as gate, Cell as cell, Module as module_no}
 use Rattle.rules.specs.declared.refusal.Refusal.{Refusal}
@@ -13,19 +14,13 @@ use Rattle.rules.specs.Judging.{PlacedModule, module_of, known, times_due, modul
 use Rattle.rules.specs.Sound.{Sound}
 use Rattle.rules.specs.Rules.{At, In, Once, Distinct, Driven, ThroughInput, ReferenceRight, PinsRight, WiresRight, OccurrenceRule, reference, pins, wires, order, drive as one_driver, OccurrenceKeeps, occurrence_refusal, occurrence_number, ModuleRule, output_wires, all_driven, state_list, size, ModuleKeeps, module_refusal, BoardKeeps}
 use Rattle.rules.proofs.Sounds.{all_All, every_each, each_every, Fails, driven_ahead, occurrence_passes_at, module_test, Passes, no_placed, FailsModule, fails_occurrence, fails_own, judged_passes, judged_fails_first, modules_right, judged_behind}
-use Rattle.rules.proofs.Verdicts.{accepted_refused, then_left, then_right}
+use Rattle.rules.proofs.Verdicts.{then_left, then_right}
 use Rattle.rules.proofs.Reaching.{at_here, at_later, at_back, in_here, in_later, in_none, in_cases, in_All, through_input, through_in, in_through, mark_from, mark_parts, drive_from, drive_parts, behind, behind_is, behind_none, cases_within, through_is}
 
 -- Tests of lists
 
-eqb_is : (a b : ℕ) → (eqb a b ≡ true) ↔ (a ≡ b)
-eqb_is a b = (eqb-true a b, eq-eqb a b)
-
 leb_is : (a b : ℕ) → (leb a b ≡ true) ↔ (a ≤ b)
 leb_is a b = (leb-true a b, le-leb a b)
-
-and_is : (a b : Bool) (A B : Type 0) → (a ≡ true) ↔ A → (b ≡ true) ↔ B → ((a && b) ≡ true) ↔ (A × B)
-and_is a b A B f g = (λ e. let p = and_parts a b e in (f.0 p.0, g.0 p.1), λ h. and_from a b (f.1 h.0) (g.1 h.1))
 
 in_all : (f : ℕ → Bool) (xs : List ℕ) → ((x : ℕ) → In xs x → f x ≡ true) → all f xs ≡ true
 in_all f [] h = refl
@@ -35,7 +30,7 @@ all_is : (f : ℕ → Bool) (P : ℕ → Type 0) → ((x : ℕ) → (f x ≡ tru
 all_is f P h xs = (λ e x i. in_All P xs (all_All f P (λ y. (h y).0) xs e) x i, λ k. in_all f xs (λ x i. (h x).1 (k x i)))
 
 wires_is : (limit : ℕ) (ws : List ℕ) → (all (λ w. ltb w limit) ws ≡ true) ↔ WiresRight limit ws
-wires_is limit ws = all_is (λ w. ltb w limit) (λ w. w < limit) (λ w. (ltb-true w limit, lt-ltb w limit)) ws
+wires_is limit ws = all_is (λ w. ltb w limit) (λ w. w < limit) (λ w. Decides-ltb w limit) ws
 
 -- none of the wires is driven, and none is named twice
 fresh_words : (ws : List ℕ) (dr : ℕ → Bool) → fresh ws dr ≡ true → ((w : ℕ) → In ws w → dr w ≡ true → ⊥) × Distinct ws
@@ -76,10 +71,10 @@ words_fresh (v ∷ ws) dr h d =
 -- How often a number stands in a list
 
 times_here : (i s : ℕ) (ss : List ℕ) → s ≡ i → times i (s ∷ ss) ≡ 1 + times i ss
-times_here i s ss e = ap (λ b. cond b 1 0 + times i ss) (eq-eqb s i e)
+times_here i s ss e = grind (arith, nat_tests)
 
 times_other : (i s : ℕ) (ss : List ℕ) → (s ≡ i → ⊥) → times i (s ∷ ss) ≡ times i ss
-times_other i s ss e = ap (λ b. cond b 1 0 + times i ss) (ne_eqb s i e) ∙ zero-add (times i ss)
+times_other i s ss e = grind (arith, nat_tests)
 
 in_times : (i : ℕ) (ss : List ℕ) → In ss i → 0 < times i ss
 in_times i [] h = absurd (in_none i h)
@@ -209,11 +204,11 @@ module _ (board : List Module) (k : ℕ) where
   reference_is None = (λ e. both_ways false refl e, λ h. absurd h)
 
   pins_is : (q : Option Part) (ins outs : ℕ) → ReferenceRight board k q → ((eqb ins (inputs_due (behind board k) q) && eqb outs (length (outputs_due (behind board k) q))) ≡ true) ↔ PinsRight board q ins outs
-  pins_is (Some (gate g)) ins outs r = and_is _ _ _ _ (eqb_is ins _) (eqb_is outs 1)
-  pins_is (Some cell) ins outs r = and_is _ _ _ _ (eqb_is ins 1) (eqb_is outs 1)
+  pins_is (Some (gate g)) ins outs r = Decides-and _ _ (Decides-eqb ins _) (Decides-eqb outs 1)
+  pins_is (Some cell) ins outs r = Decides-and _ _ (Decides-eqb ins 1) (Decides-eqb outs 1)
   pins_is (Some (module_no j)) ins outs r =
       let e = behind_is board k j r.0 r.1 in
-      subst (λ d. ((eqb ins (in_count d) && eqb outs (length (out_wires d))) ≡ true) ↔ PinsRight board (Some (module_no j)) ins outs) (sym e) (and_is _ _ _ _ (eqb_is ins _) (eqb_is outs _))
+      subst (λ d. ((eqb ins (in_count d) && eqb outs (length (out_wires d))) ≡ true) ↔ PinsRight board (Some (module_no j)) ins outs) (sym e) (Decides-and _ _ (Decides-eqb ins _) (Decides-eqb outs _))
   pins_is None ins outs r = absurd r
 
   drive_is : (i : ℕ) (ws : List ℕ) → (fresh ws (driven_ahead (module_number board k) i) ≡ true) ↔ (((w : ℕ) → In ws w → Driven board k i w → ⊥) × Distinct ws)
@@ -243,7 +238,7 @@ module _ (board : List Module) (k : ℕ) where
     occurrence_is : (i : ℕ) (r : OccurrenceRule) → (6 < number_of (occurrence_refusal r 0) → OccurrenceKeeps board k i reference) → (occurrence_passes_at (module_number board k) (behind board k) i r ≡ true) ↔ OccurrenceKeeps board k i r
     occurrence_is i reference f = reference_is (part (occurrence_number board k i))
     occurrence_is i pins f = pins_is (part (occurrence_number board k i)) (length (occurrence_number board k i).ins) (length (occurrence_number board k i).outs) (f (omega arith))
-    occurrence_is i wires f = and_is _ _ _ _ (wires_is (module_number board k).wires (occurrence_number board k i).ins) (wires_is (module_number board k).wires (occurrence_number board k i).outs)
+    occurrence_is i wires f = Decides-and _ _ (wires_is (module_number board k).wires (occurrence_number board k i).ins) (wires_is (module_number board k).wires (occurrence_number board k i).outs)
     occurrence_is i order f = order_is i (part (occurrence_number board k i)) (occurrence_number board k i).ins (f (omega arith))
     occurrence_is i one_driver f = drive_is i (occurrence_number board k i).outs
 
@@ -261,7 +256,7 @@ module _ (board : List Module) (k : ℕ) where
       (λ e. let h = a.0 e in record { holding = h.0; each_once = h.1 }, λ h. a.1 (h.holding, h.each_once))
   module_is size =
       let d = design_number board k in
-      let a = and_is (leb (depth d) 8) (leb (cells d) 4096 && leb (places d) 65535) _ _ (leb_is (depth d) 8) (and_is (leb (cells d) 4096) (leb (places d) 65535) _ _ (leb_is (cells d) 4096) (leb_is (places d) 65535)) in
+      let a = Decides-and (leb (depth d) 8) (leb (cells d) 4096 && leb (places d) 65535) (leb_is (depth d) 8) (Decides-and (leb (cells d) 4096) (leb (places d) 65535) (leb_is (cells d) 4096) (leb_is (places d) 65535)) in
       (λ e. let h = a.0 e in record { shallow = h.0; few_cells = h.1.0; few_places = h.1.1 }, λ h. a.1 (h.shallow, (h.few_cells, h.few_places)))
 
 -- The first rule broken
@@ -375,7 +370,7 @@ module _ (us : List PlacedModule) where
 
   first_from : (n k : ℕ) → n + k ≡ length us → (e : Refusal) → from k ≡ refused e → FirstOf us e
   unfolding modules_judged
-  first_from zero k z e h = absurd (accepted_refused e (ap (modules_judged k) (sym (drop_all k us (omega arith))) ∙ h))
+  first_from zero k z e h = let x : accepted ≡ refused e = ap (modules_judged k) (sym (drop_all k us (omega arith))) ∙ h in cc
   first_from (suc n) k z e h = by (λ r g. first_from n (suc k) (omega arith) r g) (from (suc k)) refl (sym (from_split k (omega arith)) ∙ h)
     where
       by : ((r : Refusal) → from (suc k) ≡ refused r → FirstOf us r) → (v : Verdict) → from (suc k) ≡ v → (v then module_judged (behind board k) (unit k)) ≡ refused e → FirstOf us e

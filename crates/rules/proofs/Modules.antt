@@ -8,7 +8,7 @@ use Rattle.rules.specs.Refusals.{accepted, refused, ◌then◌}
 use Rattle.rules.specs.Boards.{Module, absent, node, design_from}
 use Rattle.rules.specs.Records.{end_of, module_end, module_count, module_at}
 use Rattle.rules.specs.Judging.{PlacedModule, unit_at, units_at, units_of, module_of, module_judged, modules_judged, unit_no, seen_from}
-use Rattle.rules.proofs.Verdicts.{passed, failed, accepted_refused}
+use Rattle.rules.proofs.Verdicts.{passed, failed}
 
 pub design_low : (k : ℕ) (ms : List Module) (j : ℕ) → j < k → design_from k ms j ≡ absent
 design_low k [] j h = refl
@@ -60,8 +60,8 @@ judged_step f k h e =
 -- the first failure from the last module on is the verdict
 pub judged_fails : (us : List PlacedModule) (k j : ℕ) (r : Refusal) → modules_judged (k + j) (drop j us) ≡ refused r → modules_judged k us ≡ refused r
 unfolding modules_judged
-judged_fails [] k zero r e = absurd (accepted_refused r e)
-judged_fails [] k (suc j) r e = absurd (accepted_refused r e)
+judged_fails [] k zero r e = cc
+judged_fails [] k (suc j) r e = cc
 judged_fails (u ∷ us) k zero r e = subst (λ n. modules_judged n (u ∷ us) ≡ refused r) (add-zero k) e
 judged_fails (u ∷ us) k (suc j) r e =
     let z : k + suc j ≡ suc k + j = omega arith in

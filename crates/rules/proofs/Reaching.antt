@@ -1,6 +1,7 @@
 -- On sound modules the computed reach is the one in words.
 use Rattle.std.proofs.Common.{◌≡◌, ℕ, zero, suc, ◌+◌, ◌-◌, ◌<◌, ◌≤◌, Bool, true, false, cond, ◌&&◌, eqb, ltb, ◌⊎◌, ◌↔◌, List, [], ◌∷◌, map, length, get_or, drop, Some, None, Option, sym, refl, ap, ◌∙◌, subst, ap₂, inl, inr, suc-le-suc, le_of_suc-le-suc, not-suc-le-zero, arith, length-drop}
 use Rattle.std.proofs.lemmas.List.{get_or-drop, drop-drop}
+use Rattle.std.proofs.lemmas.Bool.Decides.{nat_tests}
 use Rattle.std.proofs.lemmas.Bool.{eqb-true, eq-eqb, ne_eqb, ltb-true, lt-ltb, cases_lt, cases_Bool, and_parts, and_from, or_cases, or_left, or_right, cond-true, cond-false, both_ways}
 use Rattle.gates.specs.declared.Part.{Part}
 use Rattle.gates.specs.declared.Part.TheVariants.{Gate as gate, Cell as cell, Module as module_no}
@@ -102,11 +103,10 @@ in_through f None xs y p a e = absurd (both_ways false refl e)
 -- Driven wires
 
 pub mark_from : (v : ℕ) (dr : ℕ → Bool) (w : ℕ) → (dr w ≡ true) ⊎ (w ≡ v) → mark v dr w ≡ true
-mark_from v dr w (inl h) = elim (eqb w v) as (λ b. cond b true (dr w) ≡ true) [ true ↦ refl | false ↦ h ]
-mark_from v dr w (inr h) = cond-true (eqb w v) true (dr w) (eq-eqb w v h)
+mark_from v dr w h = grind (arith, nat_tests)
 
 pub mark_parts : (v : ℕ) (dr : ℕ → Bool) (w : ℕ) → mark v dr w ≡ true → (dr w ≡ true) ⊎ (w ≡ v)
-mark_parts v dr w e = elim (cases_Bool (eqb w v)) [ inl h ↦ inr (eqb-true w v h) | inr h ↦ inl (rw h at e) ]
+mark_parts v dr w e = grind (arith, nat_tests)
 
 pub drive_from : (ws : List ℕ) (dr : ℕ → Bool) (w : ℕ) → (dr w ≡ true) ⊎ In ws w → drive ws dr w ≡ true
 drive_from [] dr w (inl h) = h
@@ -129,7 +129,7 @@ drive_parts (v ∷ ws) dr w e =
 -- A pass leaves the wires that are driven
 
 upd_keeps : {V : Type 0} (o : ℕ) (v : V) (dr : ℕ → Bool) (ws : Wires V) (w : ℕ) → dr o ≡ false → dr w ≡ true → upd o v ws w ≡ ws w
-upd_keeps o v dr ws w f h = cond-false (eqb w o) v (ws w) (ne_eqb w o (λ e. both_ways (dr o) f (subst (λ y. dr y ≡ true) e h)))
+upd_keeps o v dr ws w f h = grind (arith, nat_tests)
 
 pub put_keeps : {V : Type 0} (os : List ℕ) (vs : List V) (dr : ℕ → Bool) (ws : Wires V) → Fresh os dr → (w : ℕ) → dr w ≡ true → put os vs ws w ≡ ws w
 put_keeps [] vs dr ws f w h = refl
@@ -233,11 +233,7 @@ module _ (board : List Module) (k : ℕ) where
       ]
 
 pub cases_within : (k j n : ℕ) → ((k < j) × (j < n)) ⊎ ((k < j) × (j < n) → ⊥)
-cases_within k j n =
-    elim (cases_lt k j) [
-      | inl a ↦ elim (cases_lt j n) [ inl b ↦ inl (a, b) | inr b ↦ inr (λ h. omega arith) ]
-      | inr a ↦ inr (λ h. omega arith)
-    ]
+cases_within k j n = grind arith
 
 -- Both ways
 

@@ -12,7 +12,7 @@ use Rattle.rules.specs.Records.{body, end_of, framed, read, board_shape, module_
 use Rattle.rules.specs.Judging.{PlacedOccurrence, PlacedModule, occurrences_of, module_of, units_of, board_of, known, occurrence_judged, occurrences_judged, times_due, states_right, size_right, module_judged, modules_judged, verdict, seen_from}
 use Rattle.rules.specs.Sound.{All, Fresh, Refers, Fits, FitAll, SoundModule, Sound}
 use Rattle.rules.specs.Rules.{OccurrenceRule, reference, pins, wires, order, drive as one_driver, occurrence_refusal, ModuleRule, output_wires, all_driven, state_list, size, module_refusal}
-use Rattle.rules.proofs.Verdicts.{accepted_refused, refused_accepted, asked_accepted, then_left, then_right, asked_refused}
+use Rattle.rules.proofs.Verdicts.{asked_accepted, then_left, then_right, asked_refused}
 use Rattle.rules.proofs.Modules.{length_units}
 
 -- Tests of lists
@@ -52,7 +52,7 @@ each_every (suc n) f h = and_from (f 0) (every n (λ i. f (suc i))) (h 0 (omega 
 
 passed_both : (b : Bool) (e : Refusal) (v : Verdict) → (asked b e then v) ≡ accepted → (b ≡ true) × (v ≡ accepted)
 passed_both true e v h = (refl, h)
-passed_both false e v h = absurd (refused_accepted e h)
+passed_both false e v h = cc
 
 failed_either : (b : Bool) (e : Refusal) (v : Verdict) (r : Refusal) → (asked b e then v) ≡ refused r → ((b ≡ false) × (r ≡ e)) ⊎ ((b ≡ true) × (v ≡ refused r))
 failed_either true e v r h = inr (refl, h)
@@ -90,16 +90,16 @@ module _ (below : ℕ → Design) (limit : ℕ) (dr : ℕ → Bool) where
     occurrence_fails : (e : Refusal) → occurrence_judged below limit dr p ≡ refused e → Fails test occurrence_refusal p.place e
     occurrence_fails e h =
         elim (failed_either (test reference) _ _ e h) [
-          | inl a ↦ record { rule = reference; fails = a.0; is = a.1; lesser = elim [ reference ↦ λ l. absurd (omega arith) | pins ↦ λ l. absurd (omega arith) | wires ↦ λ l. absurd (omega arith) | order ↦ λ l. absurd (omega arith) | one_driver ↦ λ l. absurd (omega arith) ] }
+          | inl a ↦ record { rule = reference; fails = a.0; is = a.1; lesser = λ q l. grind arith }
           | inr a ↦ elim (failed_either (test pins) _ _ e a.1) [
-            | inl b ↦ record { rule = pins; fails = b.0; is = b.1; lesser = elim [ reference ↦ λ l. a.0 | pins ↦ λ l. absurd (omega arith) | wires ↦ λ l. absurd (omega arith) | order ↦ λ l. absurd (omega arith) | one_driver ↦ λ l. absurd (omega arith) ] }
+            | inl b ↦ record { rule = pins; fails = b.0; is = b.1; lesser = λ q l. grind arith }
             | inr b ↦ elim (failed_either (test wires) _ _ e b.1) [
-              | inl c ↦ record { rule = wires; fails = c.0; is = c.1; lesser = elim [ reference ↦ λ l. a.0 | pins ↦ λ l. b.0 | wires ↦ λ l. absurd (omega arith) | order ↦ λ l. absurd (omega arith) | one_driver ↦ λ l. absurd (omega arith) ] }
+              | inl c ↦ record { rule = wires; fails = c.0; is = c.1; lesser = λ q l. grind arith }
               | inr c ↦ elim (failed_either (test order) _ _ e c.1) [
-                | inl d ↦ record { rule = order; fails = d.0; is = d.1; lesser = elim [ reference ↦ λ l. a.0 | pins ↦ λ l. b.0 | wires ↦ λ l. c.0 | order ↦ λ l. absurd (omega arith) | one_driver ↦ λ l. absurd (omega arith) ] }
+                | inl d ↦ record { rule = order; fails = d.0; is = d.1; lesser = λ q l. grind arith }
                 | inr d ↦
                     let f = asked_refused (test one_driver) _ e d.1 in
-                    record { rule = one_driver; fails = f.0; is = sym f.1; lesser = elim [ reference ↦ λ l. a.0 | pins ↦ λ l. b.0 | wires ↦ λ l. c.0 | order ↦ λ l. d.0 | one_driver ↦ λ l. absurd (omega arith) ] }
+                    record { rule = one_driver; fails = f.0; is = sym f.1; lesser = λ q l. grind arith }
               ]
             ]
           ]
@@ -160,7 +160,7 @@ module _ (below : ℕ → Design) where
 
     occurrences_fail : (dr : ℕ → Bool) (ps : List PlacedOccurrence) (e : Refusal) → occurrences_judged below limit dr ps ≡ refused e → FailsAt dr ps e
     unfolding occurrences_judged
-    occurrences_fail dr [] e h = absurd (accepted_refused e h)
+    occurrences_fail dr [] e h = cc
     occurrences_fail dr (p ∷ ps) e h = by (occurrences_fail (drive p.occurrence.outs dr) ps e) (occurrence_judged below limit dr p) refl h
       where
         rest : Verdict
@@ -199,14 +199,14 @@ module _ (below : ℕ → Design) where
     own_fails : (e : Refusal) → own_judged ≡ refused e → Fails (module_test m below) module_refusal u.place e
     own_fails e h =
         elim (failed_either (module_test m below output_wires) _ _ e h) [
-          | inl a ↦ record { rule = output_wires; fails = a.0; is = a.1; lesser = elim [ output_wires ↦ λ l. absurd (omega arith) | all_driven ↦ λ l. absurd (omega arith) | state_list ↦ λ l. absurd (omega arith) | size ↦ λ l. absurd (omega arith) ] }
+          | inl a ↦ record { rule = output_wires; fails = a.0; is = a.1; lesser = λ q l. grind arith }
           | inr a ↦ elim (failed_either (module_test m below all_driven) _ _ e a.1) [
-            | inl b ↦ record { rule = all_driven; fails = b.0; is = b.1; lesser = elim [ output_wires ↦ λ l. a.0 | all_driven ↦ λ l. absurd (omega arith) | state_list ↦ λ l. absurd (omega arith) | size ↦ λ l. absurd (omega arith) ] }
+            | inl b ↦ record { rule = all_driven; fails = b.0; is = b.1; lesser = λ q l. grind arith }
             | inr b ↦ elim (failed_either (module_test m below state_list) _ _ e b.1) [
-              | inl c ↦ record { rule = state_list; fails = c.0; is = c.1; lesser = elim [ output_wires ↦ λ l. a.0 | all_driven ↦ λ l. b.0 | state_list ↦ λ l. absurd (omega arith) | size ↦ λ l. absurd (omega arith) ] }
+              | inl c ↦ record { rule = state_list; fails = c.0; is = c.1; lesser = λ q l. grind arith }
               | inr c ↦
                   let f = asked_refused (module_test m below size) _ e c.1 in
-                  record { rule = size; fails = f.0; is = sym f.1; lesser = elim [ output_wires ↦ λ l. a.0 | all_driven ↦ λ l. b.0 | state_list ↦ λ l. c.0 | size ↦ λ l. absurd (omega arith) ] }
+                  record { rule = size; fails = f.0; is = sym f.1; lesser = λ q l. grind arith }
             ]
           ]
         ]
@@ -239,13 +239,13 @@ module _ (below : ℕ → Design) where
   known_Refers (Some (gate g)) e = tt
   known_Refers (Some cell) e = tt
   known_Refers (Some (module_no j)) e = e
-  known_Refers None e = let z : ⊥ = both_ways false refl e in elim z [ ]
+  known_Refers None e = cc
 
   RefersKnown : (p : Option Part) → Refers Seen p → known below p ≡ true
   RefersKnown (Some (gate g)) k = refl
   RefersKnown (Some cell) k = refl
   RefersKnown (Some (module_no j)) k = k
-  RefersKnown None k = elim k [ ]
+  RefersKnown None k = absurd k
 
   module _ (limit : ℕ) where
     tests_fit : (dr : ℕ → Bool) (o : Occurrence) → ((r : OccurrenceRule) → occurrence_test below limit dr o r ≡ true) → Fits Seen below limit dr o

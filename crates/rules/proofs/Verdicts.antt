@@ -1,5 +1,5 @@
 -- Checks one after another.
-use Rattle.std.proofs.Common.{◌≡◌, ℕ, Bool, true, false, refl, ap, arith}
+use Rattle.std.proofs.Common.{◌≡◌, Bool, true, false, refl, ap}
 use Rattle.rules.specs.declared.refusal.Refusal.{Refusal}
 use Rattle.rules.specs.Refusals.{Verdict, accepted, refused, ◌then◌, asked}
 
@@ -16,23 +16,23 @@ pub failed : (a b : Verdict) (r : Refusal) → a ≡ refused r → (a then b) �
 failed a b r e = ap (λ v. v then b) e
 
 pub accepted_refused : (r : Refusal) → accepted ≡ refused r → ⊥
-accepted_refused r e = let z : ◌≡◌ {A = ℕ} 0 1 = cc in omega arith
+accepted_refused r e = cc
 
 pub refused_accepted : (r : Refusal) → refused r ≡ accepted → ⊥
-refused_accepted r e = let z : ◌≡◌ {A = ℕ} 0 1 = cc in omega arith
+refused_accepted r e = cc
 
 pub asked_accepted : (b : Bool) (r : Refusal) → asked b r ≡ accepted → b ≡ true
 asked_accepted true r e = refl
-asked_accepted false r e = absurd (refused_accepted r e)
+asked_accepted false r e = cc
 
 pub asked_refused : (b : Bool) (r e : Refusal) → asked b r ≡ refused e → (b ≡ false) × (r ≡ e)
-asked_refused true r e h = absurd (accepted_refused e h)
+asked_refused true r e h = cc
 asked_refused false r e h = (refl, cc)
 
 pub then_left : (a v : Verdict) → (a then v) ≡ accepted → a ≡ accepted
 then_left accepted v e = refl
-then_left (refused r) v e = absurd (refused_accepted r e)
+then_left (refused r) v e = cc
 
 pub then_right : (a v : Verdict) → (a then v) ≡ accepted → v ≡ accepted
 then_right accepted v e = e
-then_right (refused r) v e = absurd (refused_accepted r e)
+then_right (refused r) v e = cc

@@ -19,6 +19,7 @@ pub enum Refusal {
 }
 
 impl Refusal {
+    // Stays: `as` takes only an enum whose variants have no fields, and these have a place.
     pub fn number(self) -> u8
         ensures { result ≡ number_of self }
     {

@@ -4,6 +4,7 @@ ghost use Rattle.signal.specs.BitsLaws.{bits_lawful};
 
 use super::Signal;
 
+// Stays: rows have the same operators; to write them once would take a macro that writes impls, which `rt ci` refuses.
 impl Signal for bool {
     const LETTER: char = 'B';
 
