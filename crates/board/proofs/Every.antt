@@ -1,30 +1,13 @@
 -- Tests of each number below a bound, and the entries of a state list.
-use Rattle.std.proofs.Common.{◌≡◌, ℕ, zero, suc, ◌+◌, ◌<◌, Bool, true, false, cond, ◌&&◌, eqb, List, [], ◌∷◌, length, get_or, drop, refl, ap, ◌∙◌, suc-le-suc, le_of_suc-le-suc, zero-add, arith}
+use Rattle.std.proofs.Common.{◌≡◌, ℕ, zero, suc, ◌+◌, ◌<◌, Bool, true, cond, ◌&&◌, eqb, List, [], ◌∷◌, length, get_or, drop, refl, ap, ◌∙◌, suc-le-suc, le_of_suc-le-suc, arith}
 use Rattle.std.proofs.lemmas.List.{at_drop_more}
 use Rattle.std.proofs.lemmas.Bool.{eq-eqb, ne_eqb, and_parts}
 use Rattle.rules.specs.Wires.{every, all}
 use Rattle.rules.specs.Boards.{ahead}
-use Rattle.rules.specs.Wires.{times}
-
-and_false : (a : Bool) → (a && false) ≡ false
-and_false true = refl
-and_false false = refl
-
-pub every_no : (n : ℕ) (f : ℕ → Bool) (i : ℕ) → i < n → f i ≡ false → every n f ≡ false
-every_no zero f i h e = absurd (omega arith)
-every_no (suc n) f zero h e = ap (λ b. b && every n (λ i. f (suc i))) e
-every_no (suc n) f (suc i) h e = ap (λ b. f 0 && b) (every_no n (λ k. f (suc k)) i (le_of_suc-le-suc h) e) ∙ and_false (f 0)
 
 pub every_same : (n : ℕ) (f g : ℕ → Bool) → ((j : ℕ) → j < n → f j ≡ g j) → every n f ≡ every n g
 every_same zero f g h = refl
 every_same (suc n) f g h = ap (λ b. b && every n (λ i. f (suc i))) (h 0 (omega arith)) ∙ ap (λ b. g 0 && b) (every_same n (λ i. f (suc i)) (λ i. g (suc i)) (λ j l. h (suc j) (suc-le-suc l)))
-
-module _ (i : ℕ) (xs : List ℕ) (k : ℕ) (h : k < length xs) where
-  pub times_yes : get_or xs k 0 ≡ i → times i (drop k xs) ≡ 1 + times i (drop (k + 1) xs)
-  times_yes e = at_drop_more (times i) xs k 0 h ∙ ap (λ b. cond b 1 0 + times i (drop (k + 1) xs)) (eq-eqb (get_or xs k 0) i e)
-
-  pub times_no : (get_or xs k 0 ≡ i → ⊥) → times i (drop k xs) ≡ times i (drop (k + 1) xs)
-  times_no e = at_drop_more (times i) xs k 0 h ∙ ap (λ b. cond b 1 0 + times i (drop (k + 1) xs)) (ne_eqb (get_or xs k 0) i e) ∙ zero-add (times i (drop (k + 1) xs))
 
 module _ (size : ℕ → ℕ) (i : ℕ) (xs : List ℕ) (k : ℕ) (h : k < length xs) where
   pub ahead_here : get_or xs k 0 ≡ i → ahead size (drop k xs) i ≡ 0

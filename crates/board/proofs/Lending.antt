@@ -1,5 +1,5 @@
 -- The tables of an accepted board, out of the truncation: all that they owe are equations between numbers.
-use Rattle.std.proofs.Common.{◌≡◌, ℕ, zero, suc, ◌+◌, ◌<◌, List, [], length, get_or, drop, sym, refl, ap, ◌∙◌, ap₂, subst₂, arith, length-drop}
+use Rattle.std.proofs.Common.{◌≡◌, ℕ, suc, ◌+◌, ◌<◌, List, [], length, get_or, drop, sym, refl, ap, ◌∙◌, ap₂, subst₂, arith, length-drop}
 use mathlib.Core.HLevel.{⊥_prop}
 use mathlib.Core.Logic.{∥∥₁_elim}
 use native.Mathlib.Nat.{ℕ_set}
@@ -8,10 +8,10 @@ use Rattle.std.proofs.lemmas.List.{get_or-map, drop-map, length-take-le}
 use Rattle.rules.specs.Refusals.{Verdict, accepted, refused}
 use Rattle.rules.specs.Boards.{Module, Design, no_module, module_number, design_from, cells_at, ahead}
 use Rattle.rules.specs.Records.{end_of, body, uses, module_count, module_place, records_read, outputs_in, states_in}
-use Rattle.rules.specs.Judging.{placed_at, module_of, unit_no, units_of, board_of, modules_judged, verdict, seen_from}
+use Rattle.rules.specs.Judging.{module_of, unit_no, units_of, board_of, modules_judged, verdict, seen_from}
 use Rattle.rules.proofs.Verdicts.{refused_accepted, then_left}
 use Rattle.rules.proofs.Modules.{length_units}
-use Rattle.rules.proofs.Laid.{unit_is, passes_module_place, passes_occurrence_place}
+use Rattle.rules.proofs.Laid.{length_placed, unit_is, passes_module_place, passes_occurrence_place}
 use Rattle.board.specs.declared.tables.Judged.{Judged}
 use Rattle.board.specs.Decoded.{Accepted}
 use Rattle.board.specs.Layouts.{ModuleOf, no_records}
@@ -23,11 +23,6 @@ use Rattle.board.specs.Lent.{behind, RecordsOf, CellsBegin, Right}
 accepted_out : (v : Verdict) → ∥ v ≡ accepted ∥₁ → v ≡ accepted
 accepted_out accepted t = refl
 accepted_out (refused r) t = absurd (∥∥₁_elim t ⊥_prop (refused_accepted r))
-
-length_placed : (f : List ℕ) (at n : ℕ) → length (placed_at f at n) ≡ n
-unfolding placed_at
-length_placed f at zero = refl
-length_placed f at (suc n) = ap suc (length_placed f (end_of f at) n)
 
 module _ (b : Judged) (acc : ∥ Accepted b ∥₁) where
   abbrev f : List ℕ

@@ -1,5 +1,6 @@
 mod Pins
 mod Every
+mod Chains
 mod References
 mod Inputs
 mod Tallying

@@ -6,7 +6,7 @@ use lib.Bits.{bit_and, bit_or, and_mask, or_shr, or_mod}
 use Rattle.std.proofs.lemmas.List.{at_drop_more}
 use Rattle.std.proofs.lemmas.Bool.{eq-eqb, ne_eqb, cases_eq}
 use Rattle.rules.specs.Wires.{upd}
-use Rattle.rules.specs.Wires.{all, fresh}
+use Rattle.rules.specs.Wires.{fresh}
 use Rattle.rules.specs.Wires.{picked, drive, mark}
 use Rattle.board.specs.WireTables.{bit, driven_by, reaches, picked_from, fill}
 
@@ -48,28 +48,6 @@ reach_set rs w m h =
 
 -- One turn of a loop: what is left of the pins, without the first
 
-module _ (f : ℕ → Bool) (xs : List ℕ) (i : ℕ) (h : i < length xs) where
-  pub all_yes : f (get_or xs i 0) ≡ true → all f (drop i xs) ≡ all f (drop (i + 1) xs)
-  all_yes e = at_drop_more (all f) xs i 0 h ∙ ap (λ b. b && all f (drop (i + 1) xs)) e
-
-  pub all_no : f (get_or xs i 0) ≡ false → all f (drop i xs) ≡ false
-  all_no e = at_drop_more (all f) xs i 0 h ∙ ap (λ b. b && all f (drop (i + 1) xs)) e
-
-module _ {Y : Type 0} (F : List ℕ → Y) (t : ℕ → Bool) (xs : List ℕ) (i : ℕ) (h : i < length xs) where
-  pub picked_yes : t i ≡ true → F (picked_from t i (drop i xs)) ≡ F (get_or xs i 0 ∷ picked_from t (i + 1) (drop (i + 1) xs))
-  picked_yes e =
-      let y : picked_from t i (drop i xs) ≡ get_or xs i 0 ∷ picked_from t (suc i) (drop (i + 1) xs) =
-      at_drop_more (picked_from t i) xs i 0 h ∙ ap (λ b. cond b (get_or xs i 0 ∷ picked_from t (suc i) (drop (i + 1) xs)) (picked_from t (suc i) (drop (i + 1) xs))) e in
-      let z : suc i ≡ i + 1 = omega arith in
-      ap F (y ∙ ap (λ k. get_or xs i 0 ∷ picked_from t k (drop (i + 1) xs)) z)
-
-  pub picked_no : t i ≡ false → F (picked_from t i (drop i xs)) ≡ F (picked_from t (i + 1) (drop (i + 1) xs))
-  picked_no e =
-      let y : picked_from t i (drop i xs) ≡ picked_from t (suc i) (drop (i + 1) xs) =
-      at_drop_more (picked_from t i) xs i 0 h ∙ ap (λ b. cond b (get_or xs i 0 ∷ picked_from t (suc i) (drop (i + 1) xs)) (picked_from t (suc i) (drop (i + 1) xs))) e in
-      let z : suc i ≡ i + 1 = omega arith in
-      ap F (y ∙ ap (λ k. picked_from t k (drop (i + 1) xs)) z)
-
 module _ (xs : List ℕ) (i : ℕ) (ds : List Bool) (h : i < length xs) where
   pub fresh_no : driven_by ds (get_or xs i 0) ≡ true → fresh (drop i xs) (driven_by ds) ≡ false
   fresh_no e = at_drop_more (λ l. fresh l (driven_by ds)) xs i 0 h ∙ ap (λ b. not b && fresh (drop (i + 1) xs) (mark (get_or xs i 0) (driven_by ds))) e
@@ -86,11 +64,3 @@ fill_more xs i m rs h l = at_drop_more (λ l. fill l (bit m) (reaches rs)) xs i 
 
 pub bit_zero : (x : ℕ) → bit 0 x ≡ false
 bit_zero x = ap (λ z. eqb (z % 2) 1) (zero-div (2 ^ x))
-
-pub or_again : (a b c : Bool) → ((a || b) || c) ≡ (a || (b || c))
-or_again true b c = refl
-or_again false b c = refl
-
-pub or_none : (a : Bool) → (a || false) ≡ a
-or_none true = refl
-or_none false = refl

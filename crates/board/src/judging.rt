@@ -33,6 +33,7 @@ fn judge_file<'f>(file: &'f [u8]) -> Result<Judged<'f>, Refusal>
         summaries,
         starts,
     };
+    // Stays: module `k` is judged over the tables of all modules behind it, while its own entries wait to be written.
     for k in (0..layout.count).rev() {
         let found = judge_module(&b, k)?;
         b.summaries[k] = found.summary;

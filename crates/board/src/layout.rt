@@ -35,10 +35,10 @@ fn read_occurrences(file: &[u8], start: usize, count: usize) -> Result<Occurrenc
 {
     let mut starts = [0u16; 64];
     let mut at = start;
-    for i in 0..count {
+    for start in starts[..count].iter_mut() {
         let record = read_record(file, at, RecordKind::Occurrence)?;
         parse_occurrence(record.body, record.place)?;
-        starts[i] = at as u16;
+        *start = at as u16;
         at += 4 + record.body.len();
     }
     Ok(OccurrenceRecords { starts, end: at })
@@ -86,9 +86,8 @@ fn read_modules(file: &[u8], start: usize, count: usize) -> Result<[ModuleRecord
 {
     let mut modules = [no_records(); 64];
     let mut at = start;
-    for k in 0..count {
-        let module = read_module(file, at)?;
-        modules[k] = module;
+    for module in modules[..count].iter_mut() {
+        *module = read_module(file, at)?;
         at = module.occurrences.end;
     }
     if at != file.len() {

@@ -30,9 +30,7 @@ fn inputs_driven(inputs: u8) -> [bool; 256]
     ensures { (w : ℕ) → driven_by result w ≡ nat_lt w inputs }
 {
     let mut driven = [false; 256];
-    for i in 0..inputs as usize {
-        driven[i] = true;
-    }
+    driven[..inputs as usize].fill(true);
     driven
 }
 
@@ -42,8 +40,8 @@ fn inputs_reach(inputs: u8) -> [u16; 256]
     ensures { (w x : ℕ) → reaches result w x ≡ (nat_lt w inputs && w == x) }
 {
     let mut reach = [0; 256];
-    for i in 0..inputs as usize {
-        reach[i] = 1 << i;
+    for (i, set) in reach[..inputs as usize].iter_mut().enumerate() {
+        *set = 1 << i;
     }
     reach
 }

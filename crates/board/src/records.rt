@@ -8,20 +8,16 @@ use rules::Refusal;
 
 #[derive(Clone, Copy)]
 pub enum RecordKind {
-    Board,
-    Module,
-    Occurrence,
+    Board = 1,
+    Module = 2,
+    Occurrence = 3,
 }
 
 impl RecordKind {
     pub fn number(self) -> u16
         ensures { result ≡ kind_number self }
     {
-        match self {
-            RecordKind::Board => 1,
-            RecordKind::Module => 2,
-            RecordKind::Occurrence => 3,
-        }
+        self as u16
     }
 }
 
@@ -40,11 +36,11 @@ pub fn read_record<'f>(file: &'f [u8], at: usize, due: RecordKind) -> Result<Rec
     if file.len() - at < 4 {
         return Err(Refusal::Cut { place: at });
     }
-    let size = file[at] as usize + 256 * (file[at + 1] as usize);
+    let size = u16::from_le_bytes([file[at], file[at + 1]]) as usize;
     if file.len() - at - 4 < size {
         return Err(Refusal::Cut { place: at });
     }
-    if file[at + 2] as u16 + 256 * (file[at + 3] as u16) != due.number() {
+    if u16::from_le_bytes([file[at + 2], file[at + 3]]) != due.number() {
         return Err(Refusal::Kind { place: at });
     }
     let body = &file[at + 4..at + 4 + size];
@@ -62,7 +58,7 @@ pub fn parse_board(body: &[u8], place: usize) -> Result<usize, Refusal>
     let [low, high] = body else {
         return Err(Refusal::Shape { place });
     };
-    let count = *low as usize + 256 * (*high as usize);
+    let count = u16::from_le_bytes([*low, *high]) as usize;
     if count < 1 || count > 64 {
         return Err(Refusal::Shape { place });
     }
@@ -124,7 +120,7 @@ pub fn parse_occurrence<'f>(body: &'f [u8], place: usize) -> Result<Occurrence<'
         return Err(Refusal::Shape { place });
     }
     Ok(Occurrence {
-        reference: *low as u16 + 256 * (*high as u16),
+        reference: u16::from_le_bytes([*low, *high]),
         ins: &body[4..4 + ins],
         outs: &body[4 + ins..4 + ins + outs],
     })

@@ -16,12 +16,7 @@ fn has_input(mask: u16, k: usize) -> bool
 pub fn all_below(pins: &[u8], limit: u8) -> bool
     ensures { result ≡ all (λ w. nat_lt w limit) pins.now }
 {
-    for w in pins {
-        if *w >= limit {
-            return false;
-        }
-    }
-    true
+    pins.iter().all(|w| *w < limit)
 }
 
 // Whether each of the pins in the set `through` is driven.
@@ -29,12 +24,10 @@ pub fn all_driven(pins: &[u8], through: u16, driven: &[bool; 256]) -> bool
     requires { length pins.now ≤ 16 }
     ensures { result ≡ all (driven_by driven.now) (picked (bit through) pins.now) }
 {
-    for (k, w) in pins.iter().enumerate() {
-        if has_input(through, k) && !driven[*w as usize] {
-            return false;
-        }
-    }
-    true
+    pins.iter()
+        .enumerate()
+        .filter(|(k, _)| has_input(through, *k))
+        .all(|(_, w)| driven[*w as usize])
 }
 
 // The inputs that reach one of the pins in the set `through`.
@@ -42,13 +35,10 @@ pub fn inputs_reaching(pins: &[u8], through: u16, reach: &[u16; 256]) -> u16
     requires { length pins.now ≤ 16 }
     ensures { (x : ℕ) → bit result x ≡ any (λ w. reaches reach.now w x) (picked (bit through) pins.now) }
 {
-    let mut mask = 0;
-    for (k, w) in pins.iter().enumerate() {
-        if has_input(through, k) {
-            mask |= reach[*w as usize];
-        }
-    }
-    mask
+    pins.iter()
+        .enumerate()
+        .filter(|(k, _)| has_input(through, *k))
+        .fold(0, |mask, (_, w)| mask | reach[*w as usize])
 }
 
 // Drives the pins, unless one is driven already or named twice.
@@ -78,25 +68,14 @@ pub fn put_reach(pins: &[u8], mask: u16, reach: &mut [u16; 256])
 pub fn first_driven(driven: &[bool; 256], count: u8) -> bool
     ensures { result ≡ every count (driven_by driven.now) }
 {
-    for w in 0..count as usize {
-        if !driven[w] {
-            return false;
-        }
-    }
-    true
+    driven[..count as usize].iter().all(|d| *d)
 }
 
 // How often `i` stands in a state list.
 fn times_in(states: &[u8], i: usize) -> usize
     ensures { result ≡ times i states.now }
 {
-    let mut n = 0;
-    for s in states {
-        if *s as usize == i {
-            n += 1;
-        }
-    }
-    n
+    states.iter().filter(|s| **s as usize == i).count()
 }
 
 // How often an occurrence of so many cells is due in the state list.
@@ -117,15 +96,11 @@ pub fn states_right(states: &[u8], sizes: &[u16; 64], count: u8) -> bool
     requires { count ≤ 64 }
     ensures { result ≡ (all (λ s. nat_lt s count) states.now && every count (λ i. nat_eq (times i states.now) (times_due (slice_index sizes.now i)))) }
 {
-    if !all_below(states, count) {
-        return false;
-    }
-    for i in 0..count as usize {
-        if !stands_as_due(states, i, sizes[i]) {
-            return false;
-        }
-    }
-    true
+    all_below(states, count)
+        && sizes[..count as usize]
+            .iter()
+            .enumerate()
+            .all(|(i, size)| stands_as_due(states, i, *size))
 }
 
 // How many of a module's cells lie ahead of those of occurrence `i`.
@@ -134,6 +109,7 @@ fn cells_ahead(states: &[u8], sizes: &[u16; 64], i: usize) -> u32
     requires inside { (k : ℕ) → k < length states.now → slice_index states.now k < 64 }
     ensures { result ≡ ahead (size_in sizes.now) states.now i }
 {
+    // Stays: as take_while, map and sum, it is left open that the index of each item of the chain is in range.
     let mut at = 0u32;
     for s in states {
         if *s as usize == i {
@@ -151,8 +127,8 @@ pub fn cell_starts(states: &[u8], sizes: &[u16; 64], count: usize) -> [u32; 64]
     ensures { (i : ℕ) → i < count → slice_index result i ≡ ahead (size_in sizes.now) states.now i }
 {
     let mut starts = [0u32; 64];
-    for i in 0..count {
-        starts[i] = cells_ahead(states, sizes, i);
+    for (i, start) in starts[..count].iter_mut().enumerate() {
+        *start = cells_ahead(states, sizes, i);
     }
     starts
 }

@@ -3,10 +3,10 @@ use Rattle.rules.specs.Records.{module_at, modules_read}
 use Rattle.board.specs.Layouts.{ModuleOf, no_records}
 use Rattle.board.proofs.layout.read_modules.Given as goal
 
-abbrev pub invariant-loop-k : goal.invariant-loop-k
-invariant-loop-k l =
-    (l.at ≡ module_at l.file l.start l.k)
+abbrev pub invariant-loop-module : goal.invariant-loop-module
+invariant-loop-module l =
+    (l.at ≡ module_at l.file l.start l.module-index)
     × (l.at ≤ length l.file)
-    × (length l.modules ≡ 64)
-    × ((j : ℕ) → j < l.k → ModuleOf l.file (module_at l.file l.start j) (get_or l.modules j no_records))
-    × (modules_read l.file l.at (l.count - l.k) ≡ modules_read l.file l.start l.count)
+    × (length l.module-items ≡ l.count)
+    × ((j : ℕ) → j < l.module-index → ModuleOf l.file (module_at l.file l.start j) (get_or l.module-items j no_records))
+    × (modules_read l.file l.at (l.count - l.module-index) ≡ modules_read l.file l.start l.count)

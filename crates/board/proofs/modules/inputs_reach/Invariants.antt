@@ -1,6 +1,5 @@
-use Rattle.std.proofs.Common.{◌≡◌, ℕ, ◌&&◌, eqb, ltb, length}
-use Rattle.board.specs.WireTables.{reaches}
+use Rattle.std.proofs.Common.{◌≡◌, ℕ, ◌^◌, ◌<◌, length, get_or}
 use Rattle.board.proofs.modules.inputs_reach.Given as goal
 
 abbrev pub invariant-loop-i : goal.invariant-loop-i
-invariant-loop-i l = (length l.reach ≡ 256) × ((w x : ℕ) → reaches l.reach w x ≡ (ltb w l.i && eqb w x))
+invariant-loop-i l = (length l.set-items ≡ l.inputs) × ((j : ℕ) → j < l.i → get_or l.set-items j 0 ≡ 2 ^ j)

@@ -1,11 +1,10 @@
-use Rattle.std.proofs.Common.{sym, arith}
-use Rattle.rules.proofs.Sounds.{each_every}
-use Rattle.board.specs.WireTables.{driven_by}
-use Rattle.board.proofs.Every.{every_no}
+use Rattle.std.proofs.Common.{Bool, take, ◌∙◌, rules, tests, arith}
+use Rattle.std.proofs.lemmas.Iterator.{YieldsList-from_slice}
+use Rattle.std.proofs.lemmas.Iterator.Search.{all_from_yields_List}
+use Rattle.board.proofs.Chains.{every_taken}
 use Rattle.board.proofs.wires.first_driven.Goals as goal
 
-pub returns-then-not-driven-w : goal.returns-then-not-driven-w
-returns-then-not-driven-w c = sym (every_no c.args.count (driven_by c.args.driven.now) c.loop-w.w (omega arith) c.if-not-driven-w.true)
-
 pub returns : goal.returns
-returns c = sym (each_every c.args.count (driven_by c.args.driven.now) (λ j h. c.loop-w.invariant j (omega arith)))
+returns c =
+    all_from_yields_List (λ (d : Bool). d) _ _ c.all.result c.all.ensures.ran (YieldsList-from_slice (take c.args.count c.args.driven.now) (grind arith)) (λ x b q k. search (rules, tests))
+    ∙ every_taken c.args.count c.args.driven.now (omega arith)

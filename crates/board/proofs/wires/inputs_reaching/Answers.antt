@@ -1,36 +1,22 @@
-use Rattle.std.proofs.Common.{◌≡◌, ℕ, ◌+◌, Bool, ◌||◌, List, get_or, drop, sym, ap, ◌∙◌, arith}
-use Rattle.std.proofs.lemmas.List.{at_drop_all}
-use Rattle.rules.specs.Wires.{any}
-use Rattle.board.specs.WireTables.{bit, reaches, picked_from}
-use Rattle.board.proofs.Pins.{or_bit, bit_zero, or_again, or_none, picked_0, picked_yes, picked_no}
+use Rattle.std.proofs.Common.{get_or, sym, ap, ◌∙◌, ◌||◌, rules, tests}
+use Rattle.std.proofs.lemmas.Iterator.{YieldsList-from_slice}
+use Rattle.std.proofs.lemmas.Iterator.Consumers.{YieldsList-at, YieldsList-from_enumerate, YieldsList-from_filter, fold_from_yields_List}
+use lib.Bits.{bit_or}
+use Rattle.rules.specs.Wires.{any, picked}
+use Rattle.board.specs.WireTables.{bit, reaches}
+use Rattle.board.proofs.Pins.{picked_0, bit_zero}
+use Rattle.board.proofs.Chains.{picked_are, joined_are}
 use Rattle.board.proofs.wires.inputs_reaching.Goals as goal
-use Rattle.board.proofs.wires.inputs_reaching.Goals.{then-has_input, else-has_input}
-
-pub loop-k-init : goal.loop-k-init
-loop-k-init c x =
-    let F : List ℕ → Bool = any (λ w. reaches c.args.reach.now w x) in
-    ap (λ b. b || F (picked_from (bit c.args.through) 0 c.args.pins.now)) (bit_zero x) ∙ ap F (sym (picked_0 (bit c.args.through) c.args.pins.now))
-
-pub loop-k-preserved : goal.loop-k-preserved
-loop-k-preserved c x =
-    let F : List ℕ → Bool = any (λ w. reaches c.args.reach.now w x) in
-    let t = bit c.args.through in
-    let xs = c.args.pins.now in
-    let k = c.loop-k.k in
-    let rest = picked_from t (k + 1) (drop (k + 1) xs) in
-    let m = bit c.loop-k.mask x in
-    elim c.if-has_input.branch [
-      | then-has_input w ↦
-          let v = get_or c.args.reach.now (get_or xs k 0) 0 in
-          let e : bit c.if-has_input.mask x ≡ (m || bit v x) = ap (λ n. bit n x) w.mask-is ∙ or_bit c.loop-k.mask v x in
-          ap (λ b. b || F rest) e ∙ or_again m (bit v x) (F rest) ∙ ap (λ b. m || b) (sym (picked_yes F t xs k (omega arith) (sym c.has_input.ensures ∙ w.if-has_input.true))) ∙ c.loop-k.invariant x
-      | else-has_input w ↦
-          ap (λ n. bit n x || F rest) w.mask-is ∙ ap (λ b. m || b) (sym (picked_no F t xs k (omega arith) (sym c.has_input.ensures ∙ w.if-has_input.false))) ∙ c.loop-k.invariant x
-    ]
 
 pub returns : goal.returns
 returns c x =
-    let F : List ℕ → Bool = any (λ w. reaches c.args.reach.now w x) in
     let t = bit c.args.through in
-    let m = bit c.loop-k.mask x in
-    sym (sym (c.loop-k.invariant x) ∙ ap (λ b. m || b) (at_drop_all (λ l. F (picked_from t c.loop-k.k l)) c.args.pins.now c.loop-k.k (omega arith)) ∙ or_none m)
+    let rs = c.args.reach.now in
+    let xs = c.args.pins.now in
+    ap (λ n. bit n x)
+    (fold_from_yields_List _ (λ n p. bit_or n (get_or rs p.1 0)) 0 c.fold.result c.fold.ensures.ran
+    (YieldsList-from_filter _ (λ p. t p.0) (YieldsList-at c.filter.ensures.source (YieldsList-from_enumerate (YieldsList-at c.enumerate.ensures.source (YieldsList-from_slice xs cc)) (cc))) c.filter.ensures.closure (λ y b q k. search (rules, tests)))
+    (λ a y b q k. search (rules, tests)))
+    ∙ joined_are rs x 0 _
+    ∙ ap (λ l. bit 0 x || any (λ w. reaches rs w x) l) (picked_are t 0 xs ∙ sym (picked_0 t xs))
+    ∙ ap (λ b. b || any (λ w. reaches rs w x) (picked t xs)) (bit_zero x)

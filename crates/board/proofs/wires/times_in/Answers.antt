@@ -1,19 +1,10 @@
-use Rattle.std.proofs.Common.{◌+◌, sym, ap, ◌∙◌, add-zero, arith}
-use Rattle.std.proofs.lemmas.List.{at_drop_all}
-use Rattle.rules.specs.Wires.{times}
-use Rattle.board.proofs.Every.{times_yes, times_no}
+use Rattle.std.proofs.Common.{eqb, ◌∙◌, rules, tests}
+use Rattle.std.proofs.lemmas.Iterator.{YieldsList-from_slice}
+use Rattle.std.proofs.lemmas.Iterator.Consumers.{YieldsList-from_filter, count_from_yields_List}
+use Rattle.board.proofs.Chains.{times_is}
 use Rattle.board.proofs.wires.times_in.Goals as goal
-use Rattle.board.proofs.wires.times_in.Goals.{then-s-i, else-s-i}
-
-pub loop-s-preserved : goal.loop-s-preserved
-loop-s-preserved c =
-    let i = c.args.i in
-    let xs = c.args.states.now in
-    let k = c.loop-s.s-index in
-    elim c.if-s-i.branch [
-      | then-s-i w ↦ (omega (arith, w.n-is), omega (arith, w.n-is, times_yes i xs k (omega arith) w.if-s-i.true, c.loop-s.invariant.1))
-      | else-s-i w ↦ (omega (arith, w.n-is), omega (arith, w.n-is, times_no i xs k (omega arith) w.if-s-i.false, c.loop-s.invariant.1))
-    ]
 
 pub returns : goal.returns
-returns c = sym (sym c.loop-s.invariant.1 ∙ ap (λ x. c.loop-s.n + x) (at_drop_all (times c.args.i) c.args.states.now c.loop-s.s-index (omega arith)) ∙ add-zero c.loop-s.n)
+returns c =
+    count_from_yields_List _ c.count.result c.count.ensures.ran (YieldsList-from_filter _ (λ s. eqb s c.args.i) (YieldsList-from_slice c.args.states.now cc) c.filter.ensures.closure (λ x b q k. search (rules, tests)))
+    ∙ times_is c.args.i c.args.states.now
