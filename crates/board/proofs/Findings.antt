@@ -10,9 +10,12 @@ use Rattle.rules.specs.Wires.{all, any, every, picked, drive_all, times, reached
 use Rattle.rules.specs.Records.{end_of, uses}
 use Rattle.rules.specs.Judging.{unit_at, module_of, occurrences_of, times_due, occurrences_judged, module_judged, states_right, size_right}
 use Rattle.rules.proofs.Laid.{length_placed}
+use Rattle.board.specs.declared.layout.ModuleRecords.{ModuleRecords}
 use Rattle.board.specs.declared.modules.Tally.{Tally}
+use Rattle.board.specs.declared.modules.Lists.{Lists}
+use Rattle.board.specs.Layouts.{ModuleOf}
 use Rattle.board.specs.WireTables.{bit, driven_by, reaches, size_in}
-use Rattle.board.specs.Tallies.{TallyOf, within_limits}
+use Rattle.board.specs.Tallies.{TallyOf, ListsOf, within_limits}
 use Rattle.board.proofs.Every.{every_same, all_each, ahead_same}
 use Rattle.board.proofs.References.{ones_bit, picked_same, picked_every}
 
@@ -49,13 +52,42 @@ one_less n =
       | false ↦ λ e. lt-leb (1 + n) 8 (omega (arith, leb-false n 7 e))
     ] in by (leb n 7) refl
 
-module _ (f : List ℕ) (below : ℕ → Design) (at : ℕ) (s : Tally) (W N place : ℕ) (outs states : List ℕ)
-    (ep : place ≡ at) (ew : W ≡ (unit_at f at).wires) (en : N ≡ uses f at) (eo : outs ≡ (unit_at f at).outs) (es : states ≡ (unit_at f at).states)
+module _ (f : List ℕ) (below : ℕ → Design) (at : ℕ) (m : ModuleRecords) (mo : ModuleOf f at m) (l : Lists) (hl : ListsOf (unit_at f at) l) (s : Tally)
     (v : occurrences_judged below (unit_at f at).wires (λ w. ltb w (unit_at f at).inputs) (unit_at f at).placed ≡ accepted) (k : TallyOf below (unit_at f at) s) where
+  abbrev W : ℕ
+  W = m.counts.wires
+
+  abbrev N : ℕ
+  N = m.counts.occurrences
+
+  abbrev place : ℕ
+  place = m.place
+
+  abbrev outs : List ℕ
+  outs = l.outs.now
+
+  abbrev states : List ℕ
+  states = l.states.now
+
+  ep : place ≡ at
+  ep = mo.place
+
+  ew : W ≡ (unit_at f at).wires
+  ew = mo.counts.wires
+
+  en : N ≡ uses f at
+  en = mo.counts.occurrences
+
+  eo : outs ≡ (unit_at f at).outs
+  eo = hl.outs
+
+  es : states ≡ (unit_at f at).states
+  es = hl.states
+
   wired_is : all (λ w. ltb w (unit_at f at).wires) (unit_at f at).outs ≡ wired W outs
   wired_is = ap (λ x. all (λ w. ltb w x) (unit_at f at).outs) (sym ew) ∙ ap (wired W) (sym eo)
 
-  driven_is : every (unit_at f at).wires (drive_all (occurrences_of (unit_at f at).placed) (λ w. ltb w (unit_at f at).inputs)) ≡ every W (driven_by s.driven)
+  driven_is : every (unit_at f at).wires (drive_all (occurrences_of (unit_at f at).placed) (λ w. ltb w (unit_at f at).inputs)) ≡ every W (driven_by s.wires.driven)
   driven_is = ap (λ x. every x (drive_all (occurrences_of (unit_at f at).placed) (λ w. ltb w (unit_at f at).inputs))) (sym ew) ∙ ap (every W) (sym k.driven)
 
   count_is : length (module_of (unit_at f at)).occurrences ≡ N
@@ -78,21 +110,21 @@ module _ (f : List ℕ) (below : ℕ → Design) (at : ℕ) (s : Tally) (W N pla
   pub bad_wire : wired W outs ≡ false → module_judged below (unit_at f at) ≡ refused (Wire place)
   bad_wire a = four_1 _ _ (every (unit_at f at).wires (drive_all (occurrences_of (unit_at f at).placed) (λ w. ltb w (unit_at f at).inputs))) (states_right (module_of (unit_at f at)) below) (size_right (node (module_of (unit_at f at)) below)) (Wire at) (Drive at) (State at) (Size at) v (wired_is ∙ a) ∙ ap (λ p. refused (Wire p)) (sym ep)
 
-  pub bad_drive : wired W outs ≡ true → every W (driven_by s.driven) ≡ false → module_judged below (unit_at f at) ≡ refused (Drive place)
+  pub bad_drive : wired W outs ≡ true → every W (driven_by s.wires.driven) ≡ false → module_judged below (unit_at f at) ≡ refused (Drive place)
   bad_drive a b = four_2 _ _ _ (states_right (module_of (unit_at f at)) below) (size_right (node (module_of (unit_at f at)) below)) (Wire at) (Drive at) (State at) (Size at) v (wired_is ∙ a) (driven_is ∙ b) ∙ ap (λ p. refused (Drive p)) (sym ep)
 
-  pub bad_state : wired W outs ≡ true → every W (driven_by s.driven) ≡ true → listed N states s.sizes ≡ false → module_judged below (unit_at f at) ≡ refused (State place)
+  pub bad_state : wired W outs ≡ true → every W (driven_by s.wires.driven) ≡ true → listed N states s.sizes ≡ false → module_judged below (unit_at f at) ≡ refused (State place)
   bad_state a b c = four_3 _ _ _ _ (size_right (node (module_of (unit_at f at)) below)) (Wire at) (Drive at) (State at) (Size at) v (wired_is ∙ a) (driven_is ∙ b) (listed_is ∙ c) ∙ ap (λ p. refused (State p)) (sym ep)
 
-  pub bad_size : wired W outs ≡ true → every W (driven_by s.driven) ≡ true → listed N states s.sizes ≡ true → within_limits s ≡ false → module_judged below (unit_at f at) ≡ refused (Size place)
+  pub bad_size : wired W outs ≡ true → every W (driven_by s.wires.driven) ≡ true → listed N states s.sizes ≡ true → within_limits s ≡ false → module_judged below (unit_at f at) ≡ refused (Size place)
   bad_size a b c e = four_4 _ _ _ _ _ (Wire at) (Drive at) (State at) (Size at) v (wired_is ∙ a) (driven_is ∙ b) (listed_is ∙ c) (small_is ∙ e) ∙ ap (λ p. refused (Size p)) (sym ep)
 
-  pub good : wired W outs ≡ true → every W (driven_by s.driven) ≡ true → listed N states s.sizes ≡ true → within_limits s ≡ true → module_judged below (unit_at f at) ≡ accepted
+  pub good : wired W outs ≡ true → every W (driven_by s.wires.driven) ≡ true → listed N states s.sizes ≡ true → within_limits s ≡ true → module_judged below (unit_at f at) ≡ accepted
   good a b c e = four _ _ _ _ _ (Wire at) (Drive at) (State at) (Size at) v (wired_is ∙ a) (driven_is ∙ b) (listed_is ∙ c) (small_is ∙ e)
 
-  pub through_is : (mask : ℕ) → length outs ≤ 16 → ((x : ℕ) → bit mask x ≡ any (λ w. reaches s.reach w x) (picked (bit 65535) outs)) → (x : ℕ) → x < 16 → bit mask x ≡ through (node (module_of (unit_at f at)) below) x
-  through_is mask l h x _ =
-      h x ∙ ap (any (λ w. reaches s.reach w x)) (every_input outs l ∙ eo) ∙ ap (λ r. reached r (unit_at f at).outs x) k.reach
+  pub through_is : (mask : ℕ) → ((x : ℕ) → bit mask x ≡ any (λ w. reaches s.wires.reach w x) (picked (bit 65535) outs)) → (x : ℕ) → x < 16 → bit mask x ≡ through (node (module_of (unit_at f at)) below) x
+  through_is mask h x _ =
+      h x ∙ ap (any (λ w. reaches s.wires.reach w x)) (every_input outs hl.few_outs ∙ eo) ∙ ap (λ r. reached r (unit_at f at).outs x) k.reach
 
   pub listed_below : listed N states s.sizes ≡ true → (j : ℕ) → j < length states → get_or states j 0 < N
   listed_below e j h = ltb-true _ _ (all_each (λ x. ltb x N) states (and_parts (all (λ x. ltb x N) states) _ e).0 j h)

@@ -133,7 +133,7 @@ module _ (f : List ℕ) (below : ℕ → Design) (at : ℕ) where
           few_places = omega (arith, g.few_places, k.few_places);
         }
 
-    pub tally_end : uses f at ≤ i → i ≤ uses f at → (occurrences_judged below (unit_at f at).wires (λ w. ltb w (unit_at f at).inputs) (unit_at f at).placed ≡ accepted) × TallyOf below (unit_at f at) (record { driven = ds; reach = rs; sizes = ss; cells = c; depth = d; places = p })
+    pub tally_end : uses f at ≤ i → i ≤ uses f at → (occurrences_judged below (unit_at f at).wires (λ w. ltb w (unit_at f at).inputs) (unit_at f at).placed ≡ accepted) × TallyOf below (unit_at f at) (record { wires = record { driven = ds; reach = rs }; sizes = ss; cells = c; depth = d; places = p })
     tally_end h h2 =
         let none = rest_all f (end_of f at) (uses f at) i h in (
           sym g.judged ∙ ap (occurrences_judged below (unit_at f at).wires (driven_by ds)) none ∙ judged_none below (unit_at f at).wires (driven_by ds),

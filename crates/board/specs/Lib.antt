@@ -6,3 +6,4 @@ pub mod Tallies
 pub mod Decoded
 pub mod Sizes
 pub mod Lent
+pub mod Current

@@ -13,8 +13,8 @@ use Rattle.board.specs.declared.modules.Tally.{Tally}
 use Rattle.board.specs.declared.modules.Lists.{Lists}
 
 pub record TallyOf (below : ℕ → Design) (u : PlacedModule) (s : Tally) : Type 0 where
-  pub driven : driven_by s.driven ≡ drive_all (occurrences_of u.placed) (λ w. nat_lt w u.inputs)
-  pub reach : reaches s.reach ≡ reach (node (module_of u) below)
+  pub driven : driven_by s.wires.driven ≡ drive_all (occurrences_of u.placed) (λ w. nat_lt w u.inputs)
+  pub reach : reaches s.wires.reach ≡ reach (node (module_of u) below)
   pub sizes : (i : ℕ) → i < length u.placed → slice_index s.sizes i ≡ cells_at (module_of u) below i
   pub cells : s.cells ≡ cells (node (module_of u) below)
   pub depth : 1 + s.depth ≡ depth (node (module_of u) below)

@@ -5,9 +5,9 @@ ghost use Rattle.rules.specs.Judging.{verdict};
 ghost use Rattle.rules.specs.Breaks.{AcceptedExactly, VerdictFirst};
 ghost use Rattle.board.specs.Decoded.{Decoded};
 
+use crate::current::Current;
 use crate::layout::read_file;
-use crate::modules::judge_module;
-use crate::tables::{Judged, Summary};
+use crate::tables::{Found, Judged, Summary};
 use rules::Refusal;
 
 // The file's records and then its modules, from the last to the top.
@@ -35,10 +35,13 @@ fn judge_file<'f>(file: &'f [u8]) -> Result<Judged<'f>, Refusal>
     };
     // Stays: module `k` is judged over the tables of all modules behind it, while its own entries wait to be written.
     for k in (0..layout.count).rev() {
-        let found = judge_module(&b, k)?;
-        b.summaries[k] = found.summary;
-        let row = found.starts;
-        b.starts[k] = row;
+        let current = Current {
+            judged: &b,
+            number: k,
+        };
+        let Found { summary, starts } = current.judge()?;
+        b.summaries[k] = summary;
+        b.starts[k] = starts;
     }
     Ok(b)
 }

@@ -2,6 +2,7 @@
 #![tactic(auto)]
 
 mod board;
+mod current;
 mod figures;
 mod judging;
 mod layout;

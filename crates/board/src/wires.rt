@@ -1,9 +1,12 @@
 // Loops over the pins of an occurrence or a module. A table has an entry for each byte, so that any wire has one.
 ghost use Rattle.std.specs.Prelude.{◌≡◌, ℕ, ◌<◌, ◌≤◌, true, ◌&&◌, length, ◌==◌, nat_eq, nat_lt, slice_index};
+ghost use Rattle.rules.specs.Refusals.{Judges, asked};
 ghost use Rattle.rules.specs.Wires.{all, any, fresh, every, picked, drive, times};
 ghost use Rattle.rules.specs.Judging.{times_due};
 ghost use Rattle.rules.specs.Boards.{ahead};
 ghost use Rattle.board.specs.WireTables.{bit, driven_by, reaches, fill, size_in};
+
+use rules::Refusal;
 
 // Whether input `k` is in the set `mask`.
 fn has_input(mask: u16, k: usize) -> bool
@@ -19,56 +22,100 @@ pub fn all_below(pins: &[u8], limit: u8) -> bool
     pins.iter().all(|w| *w < limit)
 }
 
-// Whether each of the pins in the set `through` is driven.
-pub fn all_driven(pins: &[u8], through: u16, driven: &[bool; 256]) -> bool
-    requires { length pins.now ≤ 16 }
-    ensures { result ≡ all (driven_by driven.now) (picked (bit through) pins.now) }
-{
-    pins.iter()
-        .enumerate()
-        .filter(|(k, _)| has_input(through, *k))
-        .all(|(_, w)| driven[*w as usize])
+// What is known of a module's wires: which are driven, and which of its inputs reach them.
+#[derive(Clone, Copy)]
+pub struct WireTable {
+    pub driven: [bool; 256],
+    pub reach: [u16; 256],
 }
 
-// The inputs that reach one of the pins in the set `through`.
-pub fn inputs_reaching(pins: &[u8], through: u16, reach: &[u16; 256]) -> u16
-    requires { length pins.now ≤ 16 }
-    ensures { (x : ℕ) → bit result x ≡ any (λ w. reaches reach.now w x) (picked (bit through) pins.now) }
+// The module's inputs are driven, and no other wire.
+fn inputs_driven(inputs: u8) -> [bool; 256]
+    requires { inputs ≤ 16 }
+    ensures { (w : ℕ) → driven_by result w ≡ nat_lt w inputs }
 {
-    pins.iter()
-        .enumerate()
-        .filter(|(k, _)| has_input(through, *k))
-        .fold(0, |mask, (_, w)| mask | reach[*w as usize])
+    let mut driven = [false; 256];
+    driven[..inputs as usize].fill(true);
+    driven
 }
 
-// Drives the pins, unless one is driven already or named twice.
-pub fn drive_outputs(pins: &[u8], driven: &mut [bool; 256]) -> bool
-    ensures free { result ≡ fresh pins.now (driven_by driven.old) }
-    ensures done { result ≡ true → driven_by driven.new ≡ drive pins.now (driven_by driven.old) }
+// Each input reaches itself.
+fn inputs_reach(inputs: u8) -> [u16; 256]
+    requires { inputs ≤ 16 }
+    ensures { (w x : ℕ) → reaches result w x ≡ (nat_lt w inputs && w == x) }
 {
-    for w in pins {
-        if driven[*w as usize] {
-            return false;
+    let mut reach = [0; 256];
+    for (i, set) in reach[..inputs as usize].iter_mut().enumerate() {
+        *set = 1 << i;
+    }
+    reach
+}
+
+impl WireTable {
+    // The wires ahead of the module's first occurrence.
+    pub fn of_inputs(inputs: u8) -> WireTable
+        requires { inputs ≤ 16 }
+        ensures driven { (w : ℕ) → driven_by result.driven w ≡ nat_lt w inputs }
+        ensures reach { (w x : ℕ) → reaches result.reach w x ≡ (nat_lt w inputs && w == x) }
+    {
+        WireTable {
+            driven: inputs_driven(inputs),
+            reach: inputs_reach(inputs),
         }
-        driven[*w as usize] = true;
     }
-    true
-}
 
-// Puts one set on all of the pins.
-pub fn put_reach(pins: &[u8], mask: u16, reach: &mut [u16; 256])
-    ensures { reaches reach.new ≡ fill pins.now (bit mask) (reaches reach.old) }
-{
-    for w in pins {
-        reach[*w as usize] = mask;
+    // Whether each of the pins in the set `through` is driven.
+    pub fn all_driven(&self, pins: &[u8], through: u16) -> bool
+        requires { length pins.now ≤ 16 }
+        ensures { result ≡ all (driven_by self.now.driven) (picked (bit through) pins.now) }
+    {
+        pins.iter()
+            .enumerate()
+            .filter(|(k, _)| has_input(through, *k))
+            .all(|(_, w)| self.driven[*w as usize])
     }
-}
 
-// Whether each of the first `count` wires is driven.
-pub fn first_driven(driven: &[bool; 256], count: u8) -> bool
-    ensures { result ≡ every count (driven_by driven.now) }
-{
-    driven[..count as usize].iter().all(|d| *d)
+    // The inputs that reach one of the pins in the set `through`.
+    pub fn inputs_reaching(&self, pins: &[u8], through: u16) -> u16
+        requires { length pins.now ≤ 16 }
+        ensures { (x : ℕ) → bit result x ≡ any (λ w. reaches self.now.reach w x) (picked (bit through) pins.now) }
+    {
+        pins.iter()
+            .enumerate()
+            .filter(|(k, _)| has_input(through, *k))
+            .fold(0, |mask, (_, w)| mask | self.reach[*w as usize])
+    }
+
+    // Drives the pins of the record at `place`, unless one is driven already or named twice.
+    pub fn drive(&mut self, pins: &[u8], place: usize) -> Result<(), Refusal>
+        ensures answer { Judges result (asked (fresh pins.now (driven_by self.old.driven)) (Refusal.Drive place)) (λ _. driven_by self.new.driven ≡ drive pins.now (driven_by self.old.driven)) }
+        ensures reach { self.new.reach ≡ self.old.reach }
+    {
+        for w in pins {
+            if self.driven[*w as usize] {
+                return Err(Refusal::Drive { place });
+            }
+            self.driven[*w as usize] = true;
+        }
+        Ok(())
+    }
+
+    // Puts one set of inputs on all of the pins.
+    pub fn put_reach(&mut self, pins: &[u8], mask: u16)
+        ensures reach { reaches self.new.reach ≡ fill pins.now (bit mask) (reaches self.old.reach) }
+        ensures driven { self.new.driven ≡ self.old.driven }
+    {
+        for w in pins {
+            self.reach[*w as usize] = mask;
+        }
+    }
+
+    // Whether each of the first `count` wires is driven.
+    pub fn first_driven(&self, count: u8) -> bool
+        ensures { result ≡ every count (driven_by self.now.driven) }
+    {
+        self.driven[..count as usize].iter().all(|d| *d)
+    }
 }
 
 // How often `i` stands in a state list.

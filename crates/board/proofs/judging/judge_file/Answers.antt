@@ -22,16 +22,16 @@ loop-k-init c =
       λ j a b. absurd (omega arith),
     )
 
-pub judge_module-requires : goal.judge_module-requires
-judge_module-requires c =
+pub invariant_of-current : goal.invariant_of-current
+invariant_of-current c =
     let z : c.loop-k.k - 1 + 1 ≡ c.loop-k.k = omega arith in
     let j = c.loop-k.invariant.2 in
     let n = j.count ∙ ap module_count c.loop-k.invariant.0 ∙ sym c.in_ok-layout.ensures.1.count in
-    (subst (JudgedFrom c.loop-k.b) (sym z) j, omega (arith, n, c.loop-k.auto.k))
+    record { behind = subst (JudgedFrom c.loop-k.b) (sym z) j; within = omega (arith, n, c.loop-k.auto.k) }
 
-pub returns-in_err-found : goal.returns-in_err-found
-returns-in_err-found c =
-    let p = err_from_is_err_and c.from_residual-in_err-found.result c.from_residual-in_err-found.ensures.1 in
+pub returns-in_err-summary : goal.returns-in_err-summary
+returns-in_err-summary c =
+    let p = err_from_is_err_and c.from_residual-in_err-summary.result c.from_residual-in_err-summary.ensures.1 in
     let f = c.args.file.now in
     let b = c.loop-k.b in
     let k = c.loop-k.k - 1 in
@@ -40,8 +40,8 @@ returns-in_err-found c =
     let z : k + 1 ≡ c.loop-k.k = omega arith in
     let h : k < module_count f = omega (arith, hl.1.count, c.loop-k.auto.k) in
     let hj : modules_judged (k + 1) (drop (k + 1) (units_of f)) ≡ accepted = subst (λ n. modules_judged n (drop n (units_of f)) ≡ accepted) (sym z) c.loop-k.invariant.3 in
-    let r = c.in_err-found.field-0.0 in
-    let m = subst (λ x. module_judged (seen_from x (k + 1)) (unit_no x k) ≡ refused r) e c.in_err-found.ensures in
+    let r = c.in_err-summary.field-0.0 in
+    let m = subst (λ x. module_judged (seen_from x (k + 1)) (unit_no x k) ≡ refused r) e c.in_err-summary.ensures in
     rw (p.1, p.2) (passed (records_read f) _ hl.0 ∙ judged_out f k r (judged_step f k h hj ∙ m))
 
 pub loop-k-preserved : goal.loop-k-preserved
@@ -54,8 +54,8 @@ loop-k-preserved c =
     let z : k + 1 ≡ c.loop-k.k = omega arith in
     let h : k < module_count f = omega (arith, hl.1.count, c.loop-k.auto.k) in
     let hj : modules_judged (k + 1) (drop (k + 1) (units_of f)) ≡ accepted = subst (λ n. modules_judged n (drop n (units_of f)) ≡ accepted) (sym z) c.loop-k.invariant.3 in
-    let s = c.in_ok-found.found.summary in
-    let hs = c.in_ok-found.ensures in
+    let s = c.in_ok-summary.field-0.summary in
+    let hs = c.in_ok-summary.ensures in
     let j = c.loop-k.invariant.2 in
     let m = subst (λ x. module_judged (seen_from x (k + 1)) (unit_no x k) ≡ accepted) e hs.0 in
     let g : (i : ℕ) → k + 1 ≤ i → i < b.count → Described (seen_from (file_of b) (k + 1) i) (get_or b.summaries i no_summary) = subst (λ n. (i : ℕ) → n ≤ i → i < b.count → Described (seen_from (file_of b) n i) (get_or b.summaries i no_summary)) (sym z) j.summaries in
@@ -65,7 +65,7 @@ loop-k-preserved c =
       record { count = j.count; some = j.some; few = j.few; short = j.short; modules = j.modules; summaries = summaries_more (file_of b) k b.count b.summaries s (omega (arith, c.loop-k.invariant.1, j.few)) j.count (omega (arith, n, h)) g hs.1.0 },
       judged_step f k h hj ∙ m,
       simp length-set c.loop-k.invariant.4,
-      starts_more (file_of b) k b.count b.starts c.in_ok-found.found.starts (omega (arith, c.loop-k.invariant.4, j.few, n, h)) (subst (λ x. (i : ℕ) → x ≤ i → i < b.count → StartsOf (file_of b) i (get_or b.starts i [])) (sym z) c.loop-k.invariant.5) hs.1.1,
+      starts_more (file_of b) k b.count b.starts c.in_ok-summary.field-0.starts (omega (arith, c.loop-k.invariant.4, j.few, n, h)) (subst (λ x. (i : ℕ) → x ≤ i → i < b.count → StartsOf (file_of b) i (get_or b.starts i [])) (sym z) c.loop-k.invariant.5) hs.1.1,
     )
 
 pub returns : goal.returns

@@ -6,12 +6,12 @@ use Rattle.rules.specs.Wires.{any, picked}
 use Rattle.board.specs.WireTables.{bit, reaches}
 use Rattle.board.proofs.Pins.{picked_0, bit_zero}
 use Rattle.board.proofs.Chains.{picked_are, joined_are}
-use Rattle.board.proofs.wires.inputs_reaching.Goals as goal
+use Rattle.board.proofs.wires.WireTable.inputs_reaching.Goals as goal
 
 pub returns : goal.returns
 returns c x =
     let t = bit c.args.through in
-    let rs = c.args.reach.now in
+    let rs = c.args.self.now.reach in
     let xs = c.args.pins.now in
     ap (λ n. bit n x)
     (fold_from_yields_List _ (λ n p. bit_or n (get_or rs p.1 0)) 0 c.fold.result c.fold.ensures.ran
