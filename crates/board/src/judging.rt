@@ -15,16 +15,8 @@ fn judge_file<'f>(file: &'f [u8]) -> Result<Judged<'f>, Refusal>
     ensures { Judges result (verdict file.now) (Decoded file.now) }
 {
     let layout = read_file(file)?;
-    let none = Summary {
-        inputs: 0,
-        outputs: 0,
-        through: 0,
-        cells: 0,
-        depth: 0,
-        places: 0,
-    };
     let modules = layout.modules;
-    let summaries = [none; 64];
+    let summaries = [Summary::default(); 64];
     let starts = [[0u32; 64]; 64];
     let mut b = Judged {
         file,

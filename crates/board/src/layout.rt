@@ -62,29 +62,26 @@ fn read_module(file: &[u8], at: usize) -> Result<ModuleRecords, Refusal>
     })
 }
 
-fn no_records() -> ModuleRecords {
-    let counts = Counts {
+const NO_RECORDS: ModuleRecords = ModuleRecords {
+    place: 0,
+    counts: Counts {
         inputs: 0,
         outputs: 0,
         wires: 0,
         occurrences: 0,
         states: 0,
-    };
-    ModuleRecords {
-        place: 0,
-        counts,
-        occurrences: OccurrenceRecords {
-            starts: [0; 64],
-            end: 0,
-        },
-    }
-}
+    },
+    occurrences: OccurrenceRecords {
+        starts: [0; 64],
+        end: 0,
+    },
+};
 
 fn read_modules(file: &[u8], start: usize, count: usize) -> Result<[ModuleRecords; 64], Refusal>
     requires { (start ≤ length file.now) × ((length file.now ≤ 32768) × (count ≤ 64)) }
     ensures { Judges result (modules_read file.now start count) (ModulesOf file.now start count) }
 {
-    let mut modules = [no_records(); 64];
+    let mut modules = [NO_RECORDS; 64];
     let mut at = start;
     for module in modules[..count].iter_mut() {
         *module = read_module(file, at)?;

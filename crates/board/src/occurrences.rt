@@ -24,9 +24,7 @@ fn gate_summary(gate: Gate) -> Summary
         inputs: gate.inputs(),
         outputs: 1,
         through: 0xffff,
-        cells: 0,
-        depth: 0,
-        places: 0,
+        ..Summary::default()
     }
 }
 
@@ -38,8 +36,7 @@ fn cell_summary() -> Summary
         outputs: 1,
         through: 0,
         cells: 1,
-        depth: 0,
-        places: 0,
+        ..Summary::default()
     }
 }
 

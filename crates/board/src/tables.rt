@@ -2,7 +2,7 @@
 use crate::layout::ModuleRecords;
 
 // What a part is to the module that uses it: its pins, its through inputs as a set of bits, its cells, depth and places.
-#[derive(Clone, Copy)]
+#[derive(Clone, Copy, Default)]
 pub struct Summary {
     pub inputs: u8,
     pub outputs: u8,
