@@ -29,39 +29,6 @@ pub struct Layout {
     pub modules: [ModuleRecords; 64],
 }
 
-fn read_occurrences(file: &[u8], start: usize, count: usize) -> Result<OccurrenceRecords, Refusal>
-    requires { (start ≤ length file.now) × ((length file.now ≤ 32768) × (count ≤ 64)) }
-    ensures { Judges result (occurrences_read file.now start count) (OccurrencesOf file.now start count) }
-{
-    let mut starts = [0u16; 64];
-    let mut at = start;
-    for start in starts[..count].iter_mut() {
-        let record = read_record(file, at, RecordKind::Occurrence)?;
-        parse_occurrence(record.body, record.place)?;
-        *start = at as u16;
-        at += 4 + record.body.len();
-    }
-    Ok(OccurrenceRecords { starts, end: at })
-}
-
-fn read_module(file: &[u8], at: usize) -> Result<ModuleRecords, Refusal>
-    requires { (at ≤ length file.now) × (length file.now ≤ 32768) }
-    ensures { Judges result (module_read file.now at) (ModuleOf file.now at) }
-{
-    let record = read_record(file, at, RecordKind::Module)?;
-    let counts = parse_module(record.body, record.place)?;
-    let occurrences = read_occurrences(
-        file,
-        at + 4 + record.body.len(),
-        counts.occurrences as usize,
-    )?;
-    Ok(ModuleRecords {
-        place: at,
-        counts,
-        occurrences,
-    })
-}
-
 const NO_RECORDS: ModuleRecords = ModuleRecords {
     place: 0,
     counts: Counts {
@@ -77,20 +44,67 @@ const NO_RECORDS: ModuleRecords = ModuleRecords {
     },
 };
 
-fn read_modules(file: &[u8], start: usize, count: usize) -> Result<[ModuleRecords; 64], Refusal>
-    requires { (start ≤ length file.now) × ((length file.now ≤ 32768) × (count ≤ 64)) }
-    ensures { Judges result (modules_read file.now start count) (ModulesOf file.now start count) }
-{
-    let mut modules = [NO_RECORDS; 64];
-    let mut at = start;
-    for module in modules[..count].iter_mut() {
-        *module = read_module(file, at)?;
-        at = module.occurrences.end;
+// What is left of a file from `at` on. The file is no longer than a board's.
+#[derive(Clone, Copy)]
+pub struct Rest<'f> {
+    pub file: &'f [u8],
+    pub at: usize,
+    ghost inside: { at ≤ length file.now },
+    ghost short: { length file.now ≤ 32768 },
+}
+
+impl Rest<'_> {
+    fn occurrences(&self, count: usize) -> Result<OccurrenceRecords, Refusal>
+        requires { count ≤ 64 }
+        ensures { Judges result (occurrences_read self.now.file.now self.now.at count) (OccurrencesOf self.now.file.now self.now.at count) }
+    {
+        let mut starts = [0u16; 64];
+        let mut at = self.at;
+        for start in starts[..count].iter_mut() {
+            let record = read_record(self.file, at, RecordKind::Occurrence)?;
+            parse_occurrence(record.body, record.place)?;
+            *start = at as u16;
+            at += 4 + record.body.len();
+        }
+        Ok(OccurrenceRecords { starts, end: at })
     }
-    if at != file.len() {
-        return Err(Refusal::Trail { place: at });
+
+    fn module(&self) -> Result<ModuleRecords, Refusal>
+        ensures { Judges result (module_read self.now.file.now self.now.at) (ModuleOf self.now.file.now self.now.at) }
+    {
+        let record = read_record(self.file, self.at, RecordKind::Module)?;
+        let counts = parse_module(record.body, record.place)?;
+        let behind = Rest {
+            file: self.file,
+            at: self.at + 4 + record.body.len(),
+        };
+        let occurrences = behind.occurrences(counts.occurrences as usize)?;
+        Ok(ModuleRecords {
+            place: self.at,
+            counts,
+            occurrences,
+        })
     }
-    Ok(modules)
+
+    fn modules(&self, count: usize) -> Result<[ModuleRecords; 64], Refusal>
+        requires { count ≤ 64 }
+        ensures { Judges result (modules_read self.now.file.now self.now.at count) (ModulesOf self.now.file.now self.now.at count) }
+    {
+        let mut modules = [NO_RECORDS; 64];
+        let mut at = self.at;
+        for module in modules[..count].iter_mut() {
+            let rest = Rest {
+                file: self.file,
+                at,
+            };
+            *module = rest.module()?;
+            at = module.occurrences.end;
+        }
+        if at != self.file.len() {
+            return Err(Refusal::Trail { place: at });
+        }
+        Ok(modules)
+    }
 }
 
 // The records of a file, by checks 1 to 5.
@@ -102,6 +116,10 @@ pub fn read_file(file: &[u8]) -> Result<Layout, Refusal>
     }
     let record = read_record(file, 0, RecordKind::Board)?;
     let count = parse_board(record.body, record.place)?;
-    let modules = read_modules(file, 4 + record.body.len(), count)?;
+    let behind = Rest {
+        file,
+        at: 4 + record.body.len(),
+    };
+    let modules = behind.modules(count)?;
     Ok(Layout { count, modules })
 }
