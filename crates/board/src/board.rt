@@ -1,5 +1,7 @@
 // A board: a file whose verdict is acceptance, with its tables. It exists only by judging, and borrows the file.
 ghost use Rattle.std.specs.Prelude.{◌≡◌};
+ghost use Rattle.std.proofs.Props.{props};
+ghost use mathlib.Core.Sum.{⊎_set};
 ghost use Rattle.board.specs.Decoded.{Accepted};
 ghost use Rattle.board.specs.Lent.{Right};
 ghost use Rattle.board.specs.Sizes.{Figured, FiguresOf};
@@ -11,7 +13,7 @@ use crate::tables::{Judged, Summary};
 #[derive(Drop)]
 pub struct Board<'f> {
     judged: Judged<'f>,
-    ghost accepted: { ∥ Accepted judged ∥₁ },
+    ghost accepted: { Accepted judged } by { Prim.hlevel (props, ⊎_set) },
 }
 
 // A judged file becomes a board, which carries on what judging promised of it.
