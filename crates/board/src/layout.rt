@@ -10,6 +10,7 @@ use crate::records::{
 use rules::Refusal;
 
 // Where the records of a module's occurrences begin, and where the last of them ends.
+// Stays: an array whose count is in the module's `Counts`, since judging allocates nothing and the crates above read both.
 #[derive(Clone, Copy)]
 pub struct OccurrenceRecords {
     pub starts: [u16; 64],

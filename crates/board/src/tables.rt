@@ -13,6 +13,7 @@ pub struct Summary {
 }
 
 // A file with its records, what was found of its modules, and where the cells of each occurrence begin among its module's.
+// Stays: three arrays with one count, since a board lends the records, and the cells' places, each as an array of its own.
 #[derive(Drop)]
 pub struct Judged<'f> {
     pub(crate) file: &'f [u8],

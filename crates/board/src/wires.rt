@@ -23,6 +23,7 @@ pub fn all_below(pins: &[u8], limit: u8) -> bool
 }
 
 // What is known of a module's wires: which are driven, and which of its inputs reach them.
+// Stays: two arrays by wire; of one array of pairs, the driven could be neither filled nor tested as a slice.
 #[derive(Clone, Copy)]
 pub struct WireTable {
     pub driven: [bool; 256],
@@ -129,7 +130,7 @@ fn times_in(states: &[u8], i: usize) -> usize
 fn times_due(size: u16) -> usize
     ensures { result ≡ times_due size }
 {
-    if size > 0 { 1 } else { 0 }
+    usize::from(size > 0)
 }
 
 // Whether occurrence `i`, of so many cells, stands in a state list as often as it is due.
