@@ -1,6 +1,6 @@
 -- What chains of iterators give, in the words of the rules.
 use Rattle.std.proofs.Common.{◌≡◌, ℕ, zero, suc, ◌+◌, ◌≤◌, Bool, true, false, cond, ◌&&◌, ◌||◌, eqb, List, [], ◌∷◌, map, length, get_or, take, sym, refl, ap, ◌∙◌, le_of_suc-le-suc, zero-add, arith}
-use Rattle.std.proofs.lemmas.List.Recursion.{is_sum_by}
+use Rattle.std.proofs.lemmas.List.Recursion.{is_sum_by, same_from_clauses}
 use Rattle.std.proofs.lemmas.List.Sums.{length-filter}
 use Rattle.std.specs.List.{list_all, filter, fold, enumerate_from}
 use Rattle.std.proofs.Math.Bool.{or_assoc, or-false}
@@ -11,8 +11,7 @@ use Rattle.board.proofs.Every.{every_same}
 use Rattle.board.proofs.Pins.{or_bit}
 
 pub all_is : {X : Type 0} (f : X → Bool) (xs : List X) → list_all f xs ≡ all f xs
-all_is f [] = refl
-all_is f (x ∷ xs) = ap (λ b. f x && b) (all_is f xs)
+all_is f xs = same_from_clauses (list_all f) (all f) (λ x b. f x && b) refl (λ _ _. refl) (λ _ _. refl) xs
 
 pub times_is : (i : ℕ) (xs : List ℕ) → length (filter (λ s. eqb s i) xs) ≡ times i xs
 times_is i xs = length-filter (λ s. eqb s i) xs ∙ sym (is_sum_by (times i) (λ s. cond (eqb s i) 1 0) refl (λ _ _. refl) xs)

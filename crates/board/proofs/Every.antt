@@ -1,8 +1,8 @@
 -- Tests of each number below a bound, and the entries of a state list.
-use Rattle.std.proofs.Common.{◌≡◌, ℕ, zero, suc, ◌+◌, ◌<◌, Bool, true, cond, ◌&&◌, eqb, List, [], ◌∷◌, length, get_or, drop, refl, ap, ◌∙◌, suc-le-suc, le_of_suc-le-suc, arith}
+use Rattle.std.proofs.Common.{◌≡◌, ℕ, zero, suc, ◌+◌, ◌<◌, Bool, cond, ◌&&◌, eqb, List, [], ◌∷◌, length, get_or, drop, refl, ap, ◌∙◌, suc-le-suc, arith}
 use Rattle.std.proofs.lemmas.List.{at_drop_more}
-use Rattle.std.proofs.lemmas.Bool.{eq-eqb, ne_eqb, and_parts}
-use Rattle.rules.specs.Wires.{every, all}
+use Rattle.std.proofs.lemmas.Bool.{eq-eqb, ne_eqb}
+use Rattle.rules.specs.Wires.{every}
 use Rattle.rules.specs.Boards.{ahead}
 
 pub every_same : (n : ℕ) (f g : ℕ → Bool) → ((j : ℕ) → j < n → f j ≡ g j) → every n f ≡ every n g
@@ -20,8 +20,3 @@ pub ahead_same : (a b : ℕ → ℕ) (i : ℕ) (xs : List ℕ) → ((k : ℕ) �
 ahead_same a b i [] h = refl
 ahead_same a b i (x ∷ xs) h =
     ap (λ n. cond (eqb x i) 0 (n + ahead a xs i)) (h 0 (omega arith)) ∙ ap (λ n. cond (eqb x i) 0 (b x + n)) (ahead_same a b i xs (λ k l. h (suc k) (suc-le-suc l)))
-
-pub all_each : (f : ℕ → Bool) (xs : List ℕ) → all f xs ≡ true → (k : ℕ) → k < length xs → f (get_or xs k 0) ≡ true
-all_each f [] e k h = absurd (omega arith)
-all_each f (x ∷ xs) e zero h = (and_parts (f x) (all f xs) e).0
-all_each f (x ∷ xs) e (suc k) h = all_each f xs (and_parts (f x) (all f xs) e).1 k (le_of_suc-le-suc h)

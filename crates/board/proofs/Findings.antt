@@ -2,6 +2,7 @@
 use Rattle.std.proofs.Common.{◌≡◌, ℕ, ◌+◌, ◌<◌, ◌≤◌, Bool, true, false, ◌&&◌, eqb, ltb, leb, List, length, get_or, sym, refl, ap, ◌∙◌, arith}
 use lib.ListN.{length-map}
 use Rattle.std.proofs.lemmas.Bool.{and_parts, le-leb, lt-leb, leb-true, leb-false, ltb-true}
+use Rattle.std.proofs.lemmas.List.Recursion.{and_at}
 use Rattle.rules.specs.declared.refusal.Refusal.{Refusal}
 use Rattle.rules.specs.declared.refusal.Refusal.TheVariants.{Wire, Drive, State, Size}
 use Rattle.rules.specs.Refusals.{Verdict, accepted, refused, ◌then◌, asked}
@@ -16,7 +17,7 @@ use Rattle.board.specs.declared.modules.Lists.{Lists}
 use Rattle.board.specs.Layouts.{ModuleOf}
 use Rattle.board.specs.WireTables.{bit, driven_by, reaches, size_in}
 use Rattle.board.specs.Tallies.{TallyOf, ListsOf, within_limits}
-use Rattle.board.proofs.Every.{every_same, all_each, ahead_same}
+use Rattle.board.proofs.Every.{every_same, ahead_same}
 use Rattle.board.proofs.References.{ones_bit, picked_same, picked_every}
 
 module _ (v : Verdict) (a d s z : Bool) (r1 r2 r3 r4 : Refusal) (ev : v ≡ accepted) where
@@ -127,7 +128,7 @@ module _ (f : List ℕ) (below : ℕ → Design) (at : ℕ) (m : ModuleRecords) 
       h x ∙ ap (any (λ w. reaches s.wires.reach w x)) (every_input outs hl.few_outs ∙ eo) ∙ ap (λ r. reached r (unit_at f at).outs x) k.reach
 
   pub listed_below : listed N states s.sizes ≡ true → (j : ℕ) → j < length states → get_or states j 0 < N
-  listed_below e j h = ltb-true _ _ (all_each (λ x. ltb x N) states (and_parts (all (λ x. ltb x N) states) _ e).0 j h)
+  listed_below e j h = ltb-true _ _ (and_at (all (λ x. ltb x N)) (λ x. ltb x N) refl (λ _ _. refl) states j 0 h (and_parts (all (λ x. ltb x N) states) _ e).0)
 
   pub starts_are : listed N states s.sizes ≡ true → (i : ℕ) → ahead (size_in s.sizes) states i ≡ ahead (cells_at (module_of (unit_at f at)) below) (unit_at f at).states i
   starts_are e i =
