@@ -3,8 +3,6 @@ ghost use Rattle.std.specs.Prelude.{◌≡◌};
 ghost use Rattle.run.specs.Calls.{ClearContract, LookContract, ReadContract, SetContract, cell_refusal, run_top};
 ghost use Rattle.run.specs.Refusals.{refused_by};
 
-use crate::fill::fill;
-use crate::tape::output_of;
 use crate::{CallRefusal, Run};
 use signal::Signal;
 
@@ -46,7 +44,8 @@ impl Run<'_, '_> {
         if cells.len() != self.board.figures().cells {
             return Err(CallRefusal::Fit);
         }
-        fill(cells, K::low());
+        let low = K::low();
+        cells.fill_with(|| low);
         Ok(())
     }
 
@@ -58,6 +57,7 @@ impl Run<'_, '_> {
     }
 
     // An output of an earlier cycle.
+    #[tactic(auto, using(crate::proofs::Tapes::seen_place))]
     pub fn look<K: Signal>(
         &self,
         output: usize,
@@ -78,6 +78,6 @@ impl Run<'_, '_> {
         if cycle >= past {
             return Err(CallRefusal::Unseen);
         }
-        Ok(output_of(tape, figures.outputs, past, cycle, output))
+        Ok(tape[cycle * figures.outputs + output])
     }
 }

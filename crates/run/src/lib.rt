@@ -7,7 +7,6 @@ ghost use Rattle.run.specs.Examples.{WorkedExamples};
 ghost use Rattle.run.specs.AllExamples.{AllExamples};
 
 mod calls;
-mod fill;
 mod refusal;
 mod start;
 mod step;
@@ -16,7 +15,7 @@ mod tape;
 use board::Board;
 pub use refusal::CallRefusal;
 pub use start::{cold, power};
-pub use walk::Level;
+pub use walk::{LEVEL_RECORDS, Level, WORKING_VALUES};
 
 // A run: its board, and how many steps it has made. It exists only by a call that starts one.
 #[derive(Drop)]

@@ -5,7 +5,6 @@ ghost use Rattle.walk.specs.Steps.{design_in};
 ghost use Rattle.run.specs.Calls.{board_under, start_in};
 ghost use Rattle.run.specs.Law.{PoweredLaw, WholeLaw};
 
-use crate::fill::fill;
 use crate::{CallRefusal, Run};
 use board::Board;
 use signal::{Signal, WithUnknown};
@@ -22,28 +21,8 @@ fn start<'b, 'f, K: Signal>(
     if cells.len() != board.figures().cells {
         return Err(CallRefusal::Fit);
     }
-    fill(cells, value);
+    cells.fill_with(|| value);
     Ok(Run { board, cycle: 0 })
-}
-
-fn start_low<'b, 'f, K: Signal>(
-    board: &'b Board<'f>,
-    cells: &mut [K],
-) -> Result<Run<'b, 'f>, CallRefusal>
-    ensures start { start_in result cells.new ≡ powered K.Signal.kind (design_in board.now) (length cells.old) }
-    ensures memory { MatchResult result (λ run. board_under run ≡ board.now) (λ _. cells.new ≡ cells.old) }
-{
-    start(board, cells, K::low())
-}
-
-fn start_unknown<'b, 'f, K: WithUnknown>(
-    board: &'b Board<'f>,
-    cells: &mut [K],
-) -> Result<Run<'b, 'f>, CallRefusal>
-    ensures start { start_in result cells.new ≡ start_with (design_in board.now) K.WithUnknown.blank (length cells.old) }
-    ensures memory { MatchResult result (λ run. board_under run ≡ board.now) (λ _. cells.new ≡ cells.old) }
-{
-    start(board, cells, K::unknown())
 }
 
 // Starts a run whose cells are all low.
@@ -55,7 +34,7 @@ pub fn power<'b, 'f, K: Signal>(
     ensures memory { MatchResult result (λ run. board_under run ≡ board.now) (λ _. cells.new ≡ cells.old) }
     ensures law { PoweredLaw K.Signal.kind }
 {
-    start_low(board, cells)
+    start(board, cells, K::low())
 }
 
 // Starts a run whose cells are all unknown.
@@ -67,5 +46,5 @@ pub fn cold<'b, 'f, K: WithUnknown>(
     ensures memory { MatchResult result (λ run. board_under run ≡ board.now) (λ _. cells.new ≡ cells.old) }
     ensures law { WholeLaw K.Signal.kind K.WithUnknown.blank }
 {
-    start_unknown(board, cells)
+    start(board, cells, K::unknown())
 }

@@ -7,32 +7,7 @@ ghost use Rattle.run.specs.Calls.{StepContract, board_under, memory, run_top};
 use crate::{CallRefusal, Run};
 use board::Board;
 use signal::Signal;
-use walk::{Level, walk};
-
-const WORKING_VALUES: usize = 1024;
-
-const LEVEL_RECORDS: usize = 8;
-
-// A step whose outputs go to the tape from `at` to `end`.
-fn step_at<K: Signal>(
-    board: &Board,
-    inputs: &[K],
-    cells: &mut [K],
-    tape: &mut [K],
-    at: usize,
-    end: usize,
-    work: &mut [K],
-    levels: &mut [Level],
-) -> u32
-    requires fit { fits_board (design_in board.now) (length inputs.now) (length cells.old) (end - at) (length work.old) (length levels.old) ≡ true }
-    requires forward { at ≤ end }
-    requires room { end ≤ length tape.old }
-    ensures count { result ≡ (step_of K.Signal.kind (design_in board.now) inputs.now cells.old).count }
-    ensures cells { cells.new ≡ (step_of K.Signal.kind (design_in board.now) inputs.now cells.old).cells }
-    ensures tape { tape.new ≡ take at tape.old ++ ((step_of K.Signal.kind (design_in board.now) inputs.now cells.old).outs ++ drop end tape.old) }
-{
-    walk(board, inputs, cells, &mut tape[at..end], work, levels).unwrap()
-}
+use walk::{LEVEL_RECORDS, Level, WORKING_VALUES, walk};
 
 impl Run<'_, '_> {
     // Puts the outputs on the tape at cycle × O, replaces the cells, and answers how many gates were evaluated.
@@ -62,7 +37,8 @@ impl Run<'_, '_> {
         if end > tape.len() || self.cycle == u16::MAX {
             return Err(CallRefusal::Tape);
         }
-        let count = step_at(self.board, inputs, cells, tape, at, end, work, levels);
+        let outputs = &mut tape[at..end];
+        let count = walk(self.board, inputs, cells, outputs, work, levels).unwrap();
         self.cycle += 1;
         Ok(count)
     }

@@ -3,12 +3,8 @@ use crate::fault::Fault;
 use crate::sample::Sample;
 use crate::stream::Stream;
 use board::Figures;
-use run::{Level, Run};
+use run::{LEVEL_RECORDS, Level, Run, WORKING_VALUES};
 use std::alloc::{AllocError, Global};
-
-const WORKING_VALUES: usize = 1024;
-
-const LEVEL_RECORDS: usize = 8;
 
 #[derive(Drop)]
 pub struct Memory<K> {

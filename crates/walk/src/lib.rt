@@ -16,6 +16,11 @@ use signal::Signal;
 use stack::turn;
 use windows::{deliver, open_top};
 
+// How many working values and level records are enough for any board.
+pub const WORKING_VALUES: usize = 1024;
+
+pub const LEVEL_RECORDS: usize = 8;
+
 // Whether so many inputs, cells and outputs are the board's, and so many working values and levels are enough.
 pub fn fits(
     board: &Board,
@@ -31,8 +36,8 @@ pub fn fits(
     inputs == figures.inputs
         && cells == figures.cells
         && outputs == figures.outputs
-        && values >= 1024
-        && levels >= 8
+        && values >= WORKING_VALUES
+        && levels >= LEVEL_RECORDS
 }
 
 // A step: `outputs` and `cells` become what the two passes say, and the answer is the number of gates evaluated. None, with
