@@ -1,6 +1,5 @@
 -- The steps of a drive, read off the tape.
 use Rattle.std.proofs.Common.{◌≡◌, ℕ, ◌+◌, ◌*◌, ◌<◌, ◌≤◌, Bool, true, false, cond, not, ◌&&◌, eqb, ltb, leb, List, [], ◌∷◌, ◌++◌, length, get_or, take, drop, set, replicate, Ok, sym, refl, ap, ◌∙◌, add-mul, one-mul, arith}
-use borrow.Author.Tests.{clash}
 use lib.ListN.{length-map}
 use Rattle.std.proofs.lemmas.List.{append-nil, append_assoc, get_or_append_left, get_or-append-add, length-take-le, take_all, drop_all, take_more_set, drop_more}
 use Rattle.std.proofs.lemmas.Bool.{leb-true, ltb-true, and_parts}
@@ -9,35 +8,12 @@ use Rattle.signal.specs.GateValues.{input}
 use Rattle.rules.specs.Boards.{Design, in_count, out_wires, cells}
 use Rattle.flat.specs.Passes.{step_of, first}
 use Rattle.flat.specs.Runs.{Run, Start, not_started, started, power, refusal, look, unless}
+use Rattle.run.proofs.Slices.{passes}
+use Rattle.run.proofs.Tapes.{next_cycle}
 use Rattle.run.specs.Calls.{Memory, StepContract, LookContract, with_cycle}
 use Rattle.client.specs.Drives.{turns_from}
 
--- Starting
-
-abbrev of_start : Run Bool → Start (Run Bool) → Run Bool
-of_start s (not_started n) = s
-of_start s (started t) = t
-
-abbrev is_started : Start (Run Bool) → Bool
-is_started (not_started n) = false
-is_started (started t) = true
-
--- what was started is what a start gives
-given : (b : Bool) (s t : Run Bool) (n : ℕ) → started s ≡ cond b (started t) (not_started n) → s ≡ t
-given true s t n e = ap (of_start s) e
-given false s t n e = absurd (clash (sym (ap is_started e)))
-
-pub begun : (d : Design) (cs : List Bool) (cycle n : ℕ) → started (record { cells = cs; tape = []; cycle = cycle }) ≡ power bits d n → (cs ≡ replicate (cells d) false) × (cycle ≡ 0)
-begun d cs cycle n e =
-    let s = given _ (record { cells = cs; tape = []; cycle = cycle }) (record { cells = replicate (cells d) false; tape = []; cycle = 0 }) 15 e in
-    (ap (λ r. r.cells) s, ap (λ r. r.cycle) s)
-
 -- One step and a look at its output 0
-
--- a check that an accepted call has passed
-passes : (right : Bool) (n rest : ℕ) → 0 < n → 0 ≡ unless right n rest → (right ≡ true) × (0 ≡ rest)
-passes true n rest h e = (refl, e)
-passes false n rest h e = absurd (omega arith)
 
 -- output 0 of cycle k on the tape to which that cycle was added
 on_tape : (d : Design) (outs tape : List Bool) (k : ℕ) → length outs ≡ length (out_wires d) → 0 < length (out_wires d) → k * length (out_wires d) ≤ length tape → input bits (with_cycle d k outs tape) (k * length (out_wires d) + 0) ≡ input bits outs 0
@@ -55,7 +31,7 @@ seen d d' ins held before after k count v same at stepped looked =
     let p16 = passes (leb ((before.cycle + 1) * O) (length before.tape) && not (eqb before.cycle 65535)) 16 0 (omega arith) p15.1 in
     let long = leb-true ((before.cycle + 1) * O) (length before.tape) (and_parts (leb ((before.cycle + 1) * O) (length before.tape)) _ p16.0).0 in
     let some : 0 < O = ltb-true 0 O (passes (ltb 0 O) 14 _ (omega arith) (looked.refusal ∙ ap (λ e. refusal {V = Bool} e after.cycle (look k 0 (length held) (length after.tape))) same)).0 in
-    let more : (before.cycle + 1) * O ≡ before.cycle * O + O = add-mul before.cycle 1 O ∙ ap (λ n. before.cycle * O + n) (one-mul O) in
+    let more = next_cycle before.cycle O in
     let each : length outs ≡ O = length-map (out_wires d) (first bits d ins before.cells).values in
     looked.answer ∙ ap (λ e. input bits after.tape (k * length (out_wires e) + 0)) same ∙ ap (λ t. input bits t (k * O + 0)) stepped.outcome.tape ∙ ap (λ n. input bits (with_cycle d before.cycle outs before.tape) (n * O + 0)) (sym at) ∙ on_tape d outs before.tape before.cycle each some (omega (arith, long, more))
 

@@ -1,4 +1,5 @@
 mod Fills
+pub mod Starts
 mod Bounds
 pub mod Tapes
 pub mod Slices

@@ -14,7 +14,7 @@ use Rattle.run.specs.declared.refusal.CallRefusal.{CallRefusal}
 use Rattle.run.specs.declared.refusal.CallRefusal.TheVariants.{Count, Index, Fit, Tape, Unseen}
 use Rattle.run.specs.Refusals.{number_of}
 use Rattle.run.specs.Calls.{Memory, room, StepContract, SetContract, ClearContract, ReadContract, LookContract}
-use Rattle.run.proofs.Tapes.{seen_place}
+use Rattle.run.proofs.Tapes.{next_cycle, seen_place}
 use Rattle.run.specs.Slices.{Made, step_made, set_made, clear_made, read_made, look_made, call_of, cycle_behind, cells_handed, tape_handed, cells_left, tape_left, BuildsOn, Handed, Met, Follows, HandedOn, FollowOn, SlicesFollow, Owned, FrontOf, memory_behind, LentOn, MemoryBuilds}
 
 -- Lists that build on others
@@ -47,7 +47,7 @@ Covers handed left held held' = ((left ≡ handed) × (held' ≡ held)) ⊎ (len
 
 -- Refusals
 
-passes : (right : Bool) (n rest : ℕ) → 0 < n → 0 ≡ unless right n rest → (right ≡ true) × (0 ≡ rest)
+pub passes : (right : Bool) (n rest : ℕ) → 0 < n → 0 ≡ unless right n rest → (right ≡ true) × (0 ≡ rest)
 passes true n rest h e = (refl, e)
 passes false n rest h e = absurd (omega arith)
 
@@ -111,7 +111,7 @@ module _ {V : Type 0} (K : Kind V) (d : Design) where
       let p16 = passes (leb ((s.cycle + 1) * O) (length before.tape) && not (eqb s.cycle 65535)) 16 0 (omega arith) p15.1 in
       let many = eqb-true (length before.cells) (cells d) (and_parts (eqb (length before.cells) (cells d)) _ p15.0).0 in
       let long = leb-true ((s.cycle + 1) * O) (length before.tape) (and_parts (leb ((s.cycle + 1) * O) (length before.tape)) _ p16.0).0 in
-      let more : (s.cycle + 1) * O ≡ s.cycle * O + O = add-mul s.cycle 1 O ∙ ap (λ k. s.cycle * O + k) (one-mul O) in
+      let more = next_cycle s.cycle O in
       let same = same_held before.cells s.cells (many ∙ sym z.cells) f in
       let done = c.outcome in
       let fore = ap (λ k. take (k * O) before.tape) e ∙ front_held before.tape s.tape (s.cycle * O) z.tape (omega arith) g in

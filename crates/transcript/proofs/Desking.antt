@@ -1,6 +1,6 @@
 -- What a desk stands for, after each of its calls.
-use Rattle.std.proofs.Common.{◌≡◌, ℕ, ◌+◌, ◌-◌, ◌*◌, ◌<◌, ◌≤◌, Bool, true, false, cond, not, ◌&&◌, eqb, leb, List, [], ◌∷◌, ◌++◌, length, take, drop, replicate, Some, Ok, Err, vec_items, vec_len, Result, sym, refl, ap, ◌∙◌, append_assoc, add-mul, one-mul, zero-mul, arith, eq-eqb, leb-true, MatchResult}
-use borrow.Author.Tests.{clash, eqb_apart}
+use Rattle.std.proofs.Common.{◌≡◌, ℕ, ◌+◌, ◌-◌, ◌*◌, ◌<◌, ◌≤◌, Bool, true, false, cond, not, ◌&&◌, eqb, leb, List, [], ◌∷◌, ◌++◌, length, take, drop, replicate, Some, Ok, Err, vec_items, vec_len, Result, sym, refl, ap, ◌∙◌, append_assoc, zero-mul, arith, leb-true, MatchResult}
+use borrow.Author.Tests.{eqb_apart}
 use Rattle.std.specs.Vec.{with_items}
 use Rattle.std.proofs.lemmas.List.{drop-take, length-append, length-map, length-take-le, nil_from_length, with_items_is, take_at}
 use Rattle.signal.specs.Kinds.{Kind}
@@ -9,15 +9,17 @@ use Rattle.rules.specs.Refusals.{accepted, refused as refuses_by}
 use Rattle.rules.specs.Judging.{verdict, board_of}
 use Rattle.rules.specs.Boards.{Design, in_count, out_wires, cells, top}
 use Rattle.flat.specs.Passes.{step_of}
-use Rattle.flat.specs.Runs.{Room, Call, step, refused, counted, Run, Start, not_started, started, refusal, carried_out, power}
+use Rattle.flat.specs.Runs.{Room, Call, step, refused, counted, Run, refusal, carried_out, power}
 use Rattle.board.specs.declared.board.Board.{Board}
 use Rattle.walk.specs.declared.level.Level.{Level}
 use Rattle.walk.specs.Steps.{design_in}
 use Rattle.run.specs.declared.Run.{Run as Held}
 use Rattle.run.specs.declared.refusal.CallRefusal.{CallRefusal}
-use Rattle.run.specs.declared.refusal.CallRefusal.TheVariants.{Count, Index, Fit, Tape, Unseen}
 use Rattle.run.specs.Refusals.{number_of, refused_by}
 use Rattle.run.specs.Calls.{Stepped, StepContract, board_under, memory, room, start_in}
+use Rattle.run.proofs.Slices.{refused_at}
+use Rattle.run.proofs.Starts.{begun}
+use Rattle.run.proofs.Tapes.{next_cycle}
 use Rattle.transcript.specs.declared.session.Desk.{Desk}
 use Rattle.transcript.specs.Desks.{Answered, Fresh, Lent, Ready, Told, cycle_of, design_of, done_by, run_of, taped}
 use Rattle.transcript.specs.Lines.{after_line, first_line, inputs_of, lines_of}
@@ -26,9 +28,6 @@ use Rattle.transcript.specs.Sessions.{answer_line, answers, by_verdict, line_don
 use Rattle.transcript.proofs.Cutting.{lines_first}
 
 -- the tape's part for the cycles so far, with the values of one more cycle
-
-next_cycle : (cycle outs : ℕ) → (cycle + 1) * outs ≡ cycle * outs + outs
-next_cycle cycle outs = add-mul cycle 1 outs ∙ ap (λ n. cycle * outs + n) (one-mul outs)
 
 grown : {V : Type 0} (tape outs rest : List V) (cycle n : ℕ) → cycle * n ≤ length tape → length outs ≡ n → take ((cycle + 1) * n) (take (cycle * n) tape ++ (outs ++ rest)) ≡ take (cycle * n) tape ++ outs
 grown tape outs rest cycle n h e =
@@ -49,13 +48,6 @@ accepts : {V : Type 0} (d : Design) (cycle : ℕ) (ins : List V) (r : Room) → 
 accepts d cycle ins r e =
     let t = by_tests (eqb (length ins) (in_count d)) (eqb r.cells (cells d) && (leb 1024 r.values && leb 8 r.levels)) (leb ((cycle + 1) * length (out_wires d)) r.tape) (eqb cycle 65535) e in
     (leb-true _ _ t.0, eqb_apart _ _ t.1)
-
-refuses : {V : Type 0} (K : Kind V) (d : Design) (s : Run V) (c : Call V) (e : CallRefusal) → carried_out K d s c (number_of e) ≡ record { run = s; answer = refused (number_of e) }
-refuses K d s c Count = refl
-refuses K d s c Index = refl
-refuses K d s c Fit = refl
-refuses K d s c Tape = refl
-refuses K d s c Unseen = refl
 
 abbrev as_room : ℕ → ℕ → ℕ → ℕ → Room
 as_room c t v l = record { cells = c; tape = t; values = v; levels = l }
@@ -87,7 +79,7 @@ module _ {V : Type 0} (K : Kind V) (u : V) (s : Desk V) (line : List ℕ) (ready
 
     module _ (run' : Held) (cs' tp' wk' : List V) (ls' : List Level) (cs_long : length cs' ≡ length cs) (tp_long : length tp' ≡ length tp) (board_is : board_under run' ≡ board_under s.run) where
       abbrev after : Desk V
-      after = record { run = run'; steps = s.steps; outputs = s.outputs; inputs = with_items s.inputs vs; cells = with_items s.cells cs'; tape = with_items s.tape tp'; work = with_items s.work wk'; levels = with_items s.levels ls' }
+      after = record { run = run'; outputs = s.outputs; inputs = with_items s.inputs vs; cells = with_items s.cells cs'; tape = with_items s.tape tp'; work = with_items s.work wk'; levels = with_items s.levels ls' }
 
       design_is : design_of after ≡ d
       design_is = ap design_in board_is
@@ -123,20 +115,18 @@ module _ {V : Type 0} (K : Kind V) (u : V) (s : Desk V) (line : List ℕ) (ready
           record {
             lent = lent_is (omega (arith, k, ok.0)) (omega (arith, st.cycle, ok.1, ready.lent.few));
             design = design_is;
-            steps = refl;
             outputs = refl;
             run = run_is (cycle_of s + 1) _ _ (cells_are ∙ st.cells ∙ ap (λ o. o.cells) same) tape_more st.cycle ∙ sym (ap (λ o. o.run) done);
             cycle = st.cycle;
             answer = ap counted (st.count ∙ ap (λ o. o.count) same) ∙ sym (ap (λ o. o.answer) done);
           }
       told_by (Err e) h kept =
-          let done : done_by K u s line ≡ record { run = run_of s; answer = refused (number_of e) } = done_is (number_of e) h ∙ refuses K d (run_of s) asks e in
+          let done : done_by K u s line ≡ record { run = run_of s; answer = refused (number_of e) } = done_is (number_of e) h ∙ refused_at K d (run_of s) asks e in
           let cycle_is : run'.cycle ≡ cycle_of s = ap (λ m. m.cycle) kept in
           let k : taped after ≡ taped s = taped_is (cycle_of s) cycle_is in
           record {
             lent = lent_is (omega (arith, k, ready.lent.filled)) (omega (arith, cycle_is, ready.lent.few));
             design = design_is;
-            steps = refl;
             outputs = refl;
             run = run_is (cycle_of s) _ _ (cells_are ∙ ap (λ m. m.cells) kept ∙ cs_is) (ap (λ j. take j (vec_items after.tape)) k ∙ ap (take (taped s)) (tape_is ∙ ap (λ m. m.tape) kept ∙ tp_is)) cycle_is ∙ sym (ap (λ o. o.run) done);
             cycle = cycle_is;
@@ -148,76 +138,47 @@ module _ {V : Type 0} (K : Kind V) (u : V) (s : Desk V) (line : List ℕ) (ready
 
 -- the desk at its start
 
-abbrev is_started : {S : Type 0} → Start S → Bool
-is_started (not_started n) = false
-is_started (started t) = true
-
-abbrev of_start : {S : Type 0} → S → Start S → S
-of_start s (not_started n) = s
-of_start s (started t) = t
-
-start_is : {V : Type 0} (K : Kind V) (d : Design) (n : ℕ) → n ≡ cells d → power K d n ≡ started (as_run (replicate (cells d) K.low) [] 0)
-start_is K d n e = ap (λ b. cond b (started (as_run (replicate (cells d) K.low) [] 0)) (not_started 15)) (eq-eqb n (cells d) e)
-
-pub starts : {V : Type 0} (K : Kind V) (b : Board) (e : CallRefusal) (cs : List V) (n : ℕ) → n ≡ cells (design_in b) → start_in (Err e) cs ≡ power K (design_in b) n → ⊥
-starts K b e cs n long h = clash (ap is_started (h ∙ start_is K (design_in b) n long))
-
-pub fresh : {V : Type 0} (K : Kind V) (b : Board) (s : Desk V) (cs : List V) (n : ℕ) → n ≡ cells (design_in b) → start_in (Ok s.run) cs ≡ power K (design_in b) n → board_under s.run ≡ b → s.steps ≡ 0 → s.outputs ≡ length (out_wires (design_in b)) → vec_items s.cells ≡ cs → vec_len s.inputs ≡ in_count (design_in b) → vec_len s.tape ≡ 4096 → vec_len s.work ≡ 1024 → vec_len s.levels ≡ 8 → Fresh K b s
-fresh K b s cs n long start board steps outs cells_are ins tape work levels =
+pub fresh : {V : Type 0} (K : Kind V) (b : Board) (s : Desk V) (cs : List V) (n : ℕ) → start_in (Ok s.run) cs ≡ power K (design_in b) n → board_under s.run ≡ b → s.outputs ≡ length (out_wires (design_in b)) → vec_items s.cells ≡ cs → vec_len s.inputs ≡ in_count (design_in b) → vec_len s.tape ≡ 4096 → vec_len s.work ≡ 1024 → vec_len s.levels ≡ 8 → Fresh K b s
+fresh K b s cs n start board outs cells_are ins tape work levels =
     let design_is : design_of s ≡ design_in b = ap design_in board in
-    let begun : as_run cs [] (cycle_of s) ≡ as_run (replicate (cells (design_in b)) K.low) [] 0 = ap (of_start (as_run cs [] (cycle_of s))) (start ∙ start_is K (design_in b) n long) in
-    let cycle_is : cycle_of s ≡ 0 = ap (λ r. r.cycle) begun in
+    let low = begun K (design_in b) cs (cycle_of s) n start in
+    let cycle_is : cycle_of s ≡ 0 = low.1 in
     let taped_is : taped s ≡ 0 = ap (λ k. k * length (out_wires (design_of s))) cycle_is ∙ zero-mul _ in
     record {
       ready = record {
         lent = record { inputs = ins ∙ ap in_count (sym design_is); tape = tape; work = work; levels = levels; filled = omega (arith, taped_is); few = omega (arith, cycle_is) };
-        steps = steps ∙ sym cycle_is;
         outputs = outs ∙ ap (λ d. length (out_wires d)) (sym design_is);
       };
       design = design_is;
-      run = ap (λ x. as_run x (take (taped s) (vec_items s.tape)) (cycle_of s)) cells_are ∙ ap (λ k. as_run cs (take k (vec_items s.tape)) (cycle_of s)) taped_is ∙ begun ∙ ap (λ d. powered K K.low d) (sym design_is);
+      run = ap (λ x. as_run x (take (taped s) (vec_items s.tape)) (cycle_of s)) cells_are ∙ ap (λ k. as_run cs (take k (vec_items s.tape)) (cycle_of s)) taped_is ∙ ap (λ xs. as_run xs [] (cycle_of s)) low.0 ∙ ap (as_run (replicate (cells (design_in b)) K.low) []) low.1 ∙ ap (λ d. powered K K.low d) (sym design_is);
     }
-
--- a desk that counts one more step
-abbrev one_more : {V : Type 0} → Desk V → Desk V
-one_more t = record { run = t.run; steps = t.steps + 1; outputs = t.outputs; inputs = t.inputs; cells = t.cells; tape = t.tape; work = t.work; levels = t.levels }
 
 module _ {V : Type 0} (K : Kind V) (u : V) (s : Desk V) (line : List ℕ) (ready : Ready s) (t : Desk V) where
   -- what the tape has from the last cycle
-  shown : (n : ℕ) (told : Told K u s line t (Ok n)) (from : ℕ) → from ≡ t.steps → take (from * t.outputs + t.outputs - from * t.outputs) (drop (from * t.outputs) (vec_items t.tape)) ≡ drop (length (run_of s).tape) (done_by K u s line).run.tape
-  shown n told from e =
+  shown : (n : ℕ) (told : Told K u s line t (Ok n)) (from : ℕ) → from ≡ cycle_of s → take (from * t.outputs + t.outputs - from * t.outputs) (drop (from * t.outputs) (vec_items t.tape)) ≡ drop (length (run_of s).tape) (done_by K u s line).run.tape
+  shown n told from from_is =
       let o = length (out_wires (design_of s)) in
       let outs : t.outputs ≡ o = told.outputs ∙ ready.outputs in
-      let from_is : from ≡ cycle_of s = e ∙ told.steps ∙ ready.steps in
       let at : from * t.outputs ≡ taped s = ap (λ k. k * t.outputs) from_is ∙ ap (λ k. cycle_of s * k) outs in
       let long : length (run_of s).tape ≡ taped s = length-take-le (taped s) (vec_items s.tape) (omega (arith, s.tape.ok.0, ready.lent.tape, ready.lent.filled)) in
       let all : taped t ≡ taped s + o = ap (λ k. k * length (out_wires (design_of t))) told.cycle ∙ ap (λ d. (cycle_of s + 1) * length (out_wires d)) told.design ∙ next_cycle (cycle_of s) o in
       let width : from * t.outputs + t.outputs - from * t.outputs ≡ o = omega (arith, outs) in
       ap (λ k. take k (drop (from * t.outputs) (vec_items t.tape))) width ∙ ap (λ k. take o (drop k (vec_items t.tape))) at ∙ sym (drop-take (taped s) o (vec_items t.tape)) ∙ ap (λ k. drop (taped s) (take k (vec_items t.tape))) (sym all) ∙ ap (λ k. drop k (run_of t).tape) (sym long) ∙ ap (λ r. drop (length (run_of s).tape) r.tape) told.run
 
-  pub answered_step : (n : ℕ) (told : Told K u s line t (Ok n)) (from : ℕ) → from ≡ t.steps → (items : List V) → items ≡ vec_items t.tape → (was text : List ℕ) → text ≡ was ++ step_line K t.steps (take (from * t.outputs + t.outputs - from * t.outputs) (drop (from * t.outputs) items)) n → Answered K u s line (one_more t) was text
-  answered_step n told from from_is items items_are was text e =
-      let l = told.lent in
-      let slice = ap (λ xs. take (from * t.outputs + t.outputs - from * t.outputs) (drop (from * t.outputs) xs)) items_are ∙ shown n told from from_is in
+  pub answered_step : (n : ℕ) (told : Told K u s line t (Ok n)) (cycle from : ℕ) → cycle ≡ cycle_of s → from ≡ cycle → (items : List V) → items ≡ vec_items t.tape → (was text : List ℕ) → text ≡ was ++ step_line K cycle (take (from * t.outputs + t.outputs - from * t.outputs) (drop (from * t.outputs) items)) n → Answered K u s line t was text
+  answered_step n told cycle from cycle_is from_is items items_are was text e =
+      let slice = ap (λ xs. take (from * t.outputs + t.outputs - from * t.outputs) (drop (from * t.outputs) xs)) items_are ∙ shown n told from (from_is ∙ cycle_is) in
       record {
-        ready = record {
-          lent = record { inputs = l.inputs; tape = l.tape; work = l.work; levels = l.levels; filled = l.filled; few = l.few };
-          steps = omega (arith, told.steps, ready.steps, told.cycle);
-          outputs = told.outputs ∙ ready.outputs ∙ ap (λ d. length (out_wires d)) (sym told.design);
-        };
+        ready = record { lent = told.lent; outputs = told.outputs ∙ ready.outputs ∙ ap (λ d. length (out_wires d)) (sym told.design) };
         design = told.design;
         run = told.run;
-        printed = e ∙ ap (λ k. was ++ step_line K k (take (from * t.outputs + t.outputs - from * t.outputs) (drop (from * t.outputs) items)) n) (told.steps ∙ ready.steps) ∙ ap (λ xs. was ++ step_line K (cycle_of s) xs n) slice ∙ ap (λ a. was ++ answer_line K u (design_of s) (run_of s) (done_by K u s line).run.tape a) told.answer;
+        printed = e ∙ ap (λ k. was ++ step_line K k (take (from * t.outputs + t.outputs - from * t.outputs) (drop (from * t.outputs) items)) n) cycle_is ∙ ap (λ xs. was ++ step_line K (cycle_of s) xs n) slice ∙ ap (λ a. was ++ answer_line K u (design_of s) (run_of s) (done_by K u s line).run.tape a) told.answer;
       }
 
   pub answered_refusal : (e : CallRefusal) (told : Told K u s line t (Err e)) (number : ℕ) → number ≡ number_of e → (was text : List ℕ) → text ≡ was ++ refused_line number → Answered K u s line t was text
   answered_refusal e told number number_is was text h =
       record {
-        ready = record {
-          lent = told.lent;
-          steps = told.steps ∙ ready.steps ∙ sym told.cycle;
-          outputs = told.outputs ∙ ready.outputs ∙ ap (λ d. length (out_wires d)) (sym told.design);
-        };
+        ready = record { lent = told.lent; outputs = told.outputs ∙ ready.outputs ∙ ap (λ d. length (out_wires d)) (sym told.design) };
         design = told.design;
         run = told.run;
         printed = h ∙ ap (λ n. was ++ refused_line n) number_is ∙ ap (λ a. was ++ answer_line K u (design_of s) (run_of s) (done_by K u s line).run.tape a) told.answer;
@@ -234,9 +195,9 @@ module _ {V : Type 0} (K : Kind V) (u : V) (s : Desk V) where
       let same : answers K u (design_of t) (run_of t) (lines_of rest) ≡ others = ap (λ d. answers K u d (run_of t) (lines_of rest)) a.design ∙ ap (λ r. answers K u (design_of s) r (lines_of rest)) a.run in
       ap (λ b. text ++ b) same ∙ ap (λ b. b ++ others) a.printed ∙ append_assoc was first others ∙ ap (λ ls. was ++ answers K u (design_of s) (run_of s) ls) (sym cut)
 
-  pub answers_none : (rest : List ℕ) → length rest ≡ 0 → Ready s → answers K u (design_of s) (run_of s) (lines_of rest) ≡ ended_line s.steps
+  pub answers_none : (rest : List ℕ) → length rest ≡ 0 → answers K u (design_of s) (run_of s) (lines_of rest) ≡ ended_line (cycle_of s)
   unfolding answers lines_of
-  answers_none rest e ready = ap (λ r. answers K u (design_of s) (run_of s) (lines_of r)) (nil_from_length rest e) ∙ ap ended_line (sym ready.steps)
+  answers_none rest e = ap (λ r. answers K u (design_of s) (run_of s) (lines_of r)) (nil_from_length rest e)
 
 -- the whole text
 

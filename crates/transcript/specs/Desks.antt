@@ -38,7 +38,6 @@ module _ {V : Type 0} where
 
   pub record Ready (s : Desk V) : Type 0 where
     pub lent : Lent s
-    pub steps : s.steps ≡ cycle_of s
     pub outputs : s.outputs ≡ length (out_wires (design_of s))
 
   pub record Fresh (K : Kind V) (b : Board) (s : Desk V) : Type 0 where
@@ -54,11 +53,10 @@ module _ {V : Type 0} where
   abbrev pub done_by : Kind V → V → Desk V → List ℕ → Outcome V
   done_by K unknown s line = line_done K unknown (design_of s) (run_of s) (inputs_of K unknown (in_count (design_of s)) line)
 
-  -- a step was made on the line, but is not counted yet
+  -- a step was made on the line
   pub record Told (K : Kind V) (unknown : V) (s : Desk V) (line : List ℕ) (t : Desk V) (r : Result ℕ CallRefusal) : Type 0 where
     pub lent : Lent t
     pub design : design_of t ≡ design_of s
-    pub steps : t.steps ≡ s.steps
     pub outputs : t.outputs ≡ s.outputs
     pub run : run_of t ≡ (done_by K unknown s line).run
     pub cycle : MatchResult r (λ _. cycle_of t ≡ cycle_of s + 1) (λ _. cycle_of t ≡ cycle_of s)

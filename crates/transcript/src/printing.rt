@@ -1,11 +1,11 @@
 // The lines that are printed.
-ghost use Rattle.std.specs.Prelude.{◌≡◌, ◌++◌, string_bytes, decimal, OnOk};
-ghost use Rattle.std.proofs.Math.Utf8.{encode};
-ghost use Rattle.transcript.specs.Printed.{blank, board_line, ended_line, kind_line, line_end, output_character, outputs_text, refused_line, step_line};
+ghost use Rattle.std.specs.Prelude.{◌≡◌, ◌++◌, Some, string_bytes, OnOk};
+ghost use Rattle.transcript.specs.Printed.{board_line, ended_line, kind_line, output_character, outputs_text, refused_line, step_line};
 
 use rules::Refusal;
 use signal::Signal;
 use std::alloc::AllocError;
+use std::fmt;
 
 fn output_character<K: Signal>(output: K) -> char
     ensures { result ≡ output_character (K.Signal.kind.told output) }
@@ -17,24 +17,22 @@ fn output_character<K: Signal>(output: K) -> char
     }
 }
 
-fn push_outputs<K: Signal>(text: &mut String, outputs: &[K]) -> Result<(), AllocError>
-    ensures { OnOk result (string_bytes text.new ≡ string_bytes text.old ++ outputs_text K.Signal.kind outputs.now) }
-{
-    if outputs.is_empty() {
-        return text.push('-');
-    }
-    for output in outputs {
-        text.push(output_character(*output))?;
-    }
-    Ok(())
-}
+// The outputs of a cycle: a character for each, and - if there are none.
+#[derive(Clone, Copy)]
+struct Outputs<'o, K>(&'o [K]);
 
-fn push_number(text: &mut String, number: u64) -> Result<(), AllocError>
-    ensures { OnOk result (string_bytes text.new ≡ string_bytes text.old ++ decimal number) }
-{
-    match write!(text, "{number}") {
-        Ok(()) => Ok(()),
-        Err(_) => Err(AllocError),
+impl<K: Signal> fmt::Display for Outputs<'_, K> {
+    ghost output = { λ o. Some (outputs_text K.Signal.kind o.0.now) };
+
+    fn fmt<W: fmt::Write>(&self, f: &mut fmt::Formatter<W>) -> fmt::Result {
+        if self.0.is_empty() {
+            return write!(f, "-");
+        }
+        for output in self.0 {
+            let character = output_character(*output);
+            write!(f, "{character}")?;
+        }
+        Ok(())
     }
 }
 
@@ -47,66 +45,33 @@ pub fn push_step_line<K: Signal>(
 ) -> Result<(), AllocError>
     ensures { OnOk result (string_bytes text.new ≡ string_bytes text.old ++ step_line K.Signal.kind cycle outputs.now count) }
 {
-    push_number(text, u64::from(cycle))?;
-    text.push(' ')?;
-    push_outputs(text, outputs)?;
-    text.push(' ')?;
-    push_number(text, u64::from(count))?;
-    text.push('\n')
-}
-
-// A word, a number and a line end, as `ended 2`.
-fn push_numbered(text: &mut String, word: &str, number: u64) -> Result<(), AllocError>
-    ensures { OnOk result (string_bytes text.new ≡ string_bytes text.old ++ (word.now ++ (decimal number ++ line_end))) }
-{
-    text.push_str(word)?;
-    push_number(text, number)?;
-    text.push('\n')
+    let outputs = Outputs(outputs);
+    writeln!(text, "{cycle} {outputs} {count}")
 }
 
 pub fn push_refused_line(text: &mut String, number: u8) -> Result<(), AllocError>
     ensures { OnOk result (string_bytes text.new ≡ string_bytes text.old ++ refused_line number) }
 {
-    push_numbered(text, "refused ", u64::from(number))
+    writeln!(text, "refused {number}")
 }
 
 pub fn push_ended_line(text: &mut String, steps: u16) -> Result<(), AllocError>
     ensures { OnOk result (string_bytes text.new ≡ string_bytes text.old ++ ended_line steps) }
 {
-    push_numbered(text, "ended ", u64::from(steps))
-}
-
-// A word, a letter and a line end, as `kind T`.
-fn push_lettered(text: &mut String, word: &str, letter: char) -> Result<(), AllocError>
-    ensures { OnOk result (string_bytes text.new ≡ string_bytes text.old ++ (word.now ++ (encode letter ++ line_end))) }
-{
-    text.push_str(word)?;
-    text.push(letter)?;
-    text.push('\n')
+    writeln!(text, "ended {steps}")
 }
 
 pub fn push_kind_line<K: Signal>(text: &mut String) -> Result<(), AllocError>
     ensures { OnOk result (string_bytes text.new ≡ string_bytes text.old ++ kind_line K.Signal.kind) }
 {
-    push_lettered(text, "kind ", K::kind_letter())
-}
-
-// A word, two numbers and a line end, as `board 9 17`.
-fn push_placed(text: &mut String, word: &str, number: u64, place: u64) -> Result<(), AllocError>
-    ensures { OnOk result (string_bytes text.new ≡ string_bytes text.old ++ (word.now ++ (decimal number ++ (blank ++ (decimal place ++ line_end))))) }
-{
-    text.push_str(word)?;
-    push_number(text, number)?;
-    push_numbered(text, " ", place)
+    let letter = K::kind_letter();
+    writeln!(text, "kind {letter}")
 }
 
 pub fn push_board_line(text: &mut String, refusal: Refusal) -> Result<(), AllocError>
     ensures { OnOk result (string_bytes text.new ≡ string_bytes text.old ++ board_line refusal) }
 {
-    push_placed(
-        text,
-        "board ",
-        u64::from(refusal.number()),
-        refusal.place() as u64,
-    )
+    let number = refusal.number();
+    let place = refusal.place();
+    writeln!(text, "board {number} {place}")
 }

@@ -1,6 +1,7 @@
 // The lines of an input, and what they stand for.
-ghost use Rattle.std.specs.Prelude.{◌≡◌, false, length, is_some, ◌==◌};
-ghost use Rattle.transcript.specs.Lines.{after_line, first_line, inputs_of, read_as, value_of, values_of};
+ghost use Rattle.std.specs.Prelude.{◌≡◌, None, length, is_some, position, ◌==◌};
+ghost use Rattle.std.specs.List.{list_all};
+ghost use Rattle.transcript.specs.Lines.{after_line, first_line, inputs_of, read_as, value_of};
 
 use signal::WithUnknown;
 
@@ -11,10 +12,11 @@ pub struct CutLine<'i> {
     pub rest: &'i [u8],
 }
 
-fn ends_line(byte: u8) -> bool
-    ensures { result ≡ (byte == 10) }
+// Where the first line ends, if it has a line end.
+fn line_end(input: &[u8]) -> Option<usize>
+    ensures { result ≡ position (λ byte. byte == 10) input.now }
 {
-    byte == b'\n'
+    input.iter().position(|byte| *byte == b'\n')
 }
 
 // An input that has no line end is one line.
@@ -22,17 +24,15 @@ pub fn cut_line<'i>(input: &'i [u8]) -> CutLine<'i>
     ensures line { result.line.now ≡ first_line input.now }
     ensures rest { result.rest.now ≡ after_line input.now }
 {
-    for (at, byte) in input.iter().enumerate() {
-        if ends_line(*byte) {
-            return CutLine {
-                line: &input[0..at],
-                rest: &input[at + 1..],
-            };
-        }
-    }
-    CutLine {
-        line: input,
-        rest: &input[input.len()..],
+    match line_end(input) {
+        Some(at) => CutLine {
+            line: &input[..at],
+            rest: &input[at + 1..],
+        },
+        None => CutLine {
+            line: input,
+            rest: &[],
+        },
     }
 }
 
@@ -49,33 +49,26 @@ fn value_of<K: WithUnknown>(character: u8) -> Option<K>
 
 // Whether each character of a line stands for a value.
 fn all_values<K: WithUnknown>(line: &[u8]) -> bool
-    ensures { result ≡ is_some (values_of K.Signal.kind K.WithUnknown.blank line.now) }
+    ensures { result ≡ list_all (λ character. is_some (value_of K.Signal.kind K.WithUnknown.blank character)) line.now }
 {
-    for character in line {
-        if value_of::<K>(*character).is_none() {
-            return false;
-        }
-    }
-    true
+    line.iter()
+        .all(|character| value_of::<K>(*character).is_some())
 }
 
-// Puts the values that a line stands for into the inputs, and answers whether the line is well formed. An ill-formed line leaves
-// them as they were.
-pub fn parse_line<K: WithUnknown>(line: &[u8], inputs: &mut [K]) -> bool
-    ensures read { read_as result inputs.new ≡ inputs_of K.Signal.kind K.WithUnknown.blank (length inputs.old) line.now }
-    ensures kept { result ≡ false → inputs.new ≡ inputs.old }
+// Puts the values that a line stands for into the inputs. It is None, with the inputs as they were, if the line is ill formed.
+pub fn parse_line<K: WithUnknown>(line: &[u8], inputs: &mut [K]) -> Option<()>
+    ensures read { read_as (is_some result) inputs.new ≡ inputs_of K.Signal.kind K.WithUnknown.blank (length inputs.old) line.now }
+    ensures kept { result ≡ None → inputs.new ≡ inputs.old }
 {
     if line.len() != inputs.len() {
-        return false;
+        return None;
     }
     if !all_values::<K>(line) {
-        return false;
+        return None;
     }
+    // Stays: after a `zip` over `iter_mut` a proof knows nothing of what was written.
     for (at, character) in line.iter().enumerate() {
-        match value_of(*character) {
-            Some(value) => inputs[at] = value,
-            None => unreachable(),
-        }
+        inputs[at] = value_of(*character).unwrap();
     }
-    true
+    Some(())
 }

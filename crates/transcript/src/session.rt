@@ -9,21 +9,16 @@ use crate::printing::{
 };
 use crate::reading::{cut_line, parse_line};
 use board::{Board, judge, seal};
-use run::{CallRefusal, Level, Run, power};
+use run::{CallRefusal, LEVEL_RECORDS, Level, Run, WORKING_VALUES, power};
 use signal::{Signal, WithUnknown};
 use std::alloc::{AllocError, Global};
 
 const TAPE_VALUES: usize = 4096;
 
-const WORKING_VALUES: usize = 1024;
-
-const LEVEL_RECORDS: usize = 8;
-
-// A run with the memory that it is lent, and how many steps it has made.
+// A run with the memory that it is lent, and how many outputs its board has.
 #[derive(Drop)]
 struct Desk<'b, 'f, K> {
     run: Run<'b, 'f>,
-    steps: u16,
     outputs: usize,
     inputs: Vec<K>,
     cells: Vec<K>,
@@ -35,10 +30,9 @@ struct Desk<'b, 'f, K> {
 fn all_low<K: Signal>(heap: Global, count: usize) -> Result<Vec<K>, AllocError>
     ensures { IfOk result (λ v. vec_len v ≡ count) }
 {
-    let mut values = Vec::with_capacity(heap, count)?;
-    for _ in 0..count {
-        values.push(K::low())?;
-    }
+    let low = K::low();
+    let mut values = Vec::new(heap);
+    values.resize_with(count, || low)?;
     Ok(values)
 }
 
@@ -53,19 +47,16 @@ impl<'b, 'f, K: WithUnknown> Desk<'b, 'f, K> {
         let tape = all_low(heap, TAPE_VALUES)?;
         let work = all_low(heap, WORKING_VALUES)?;
         let levels = vec![in heap; Level::new(); LEVEL_RECORDS]?;
-        match power(board, cells.as_mut_slice()) {
-            Ok(run) => Ok(Desk {
-                run,
-                steps: 0,
-                outputs: figures.outputs,
-                inputs,
-                cells,
-                tape,
-                work,
-                levels,
-            }),
-            Err(_) => unreachable(),
-        }
+        let run = power(board, cells.as_mut_slice()).unwrap();
+        Ok(Desk {
+            run,
+            outputs: figures.outputs,
+            inputs,
+            cells,
+            tape,
+            work,
+            levels,
+        })
     }
 
     // A step on what the line stands for.
@@ -73,9 +64,7 @@ impl<'b, 'f, K: WithUnknown> Desk<'b, 'f, K> {
         requires { Ready self.old }
         ensures { Told K.Signal.kind K.WithUnknown.blank self.old line.now self.new result }
     {
-        if !parse_line(line, self.inputs.as_mut_slice()) {
-            return Err(CallRefusal::Count);
-        }
+        parse_line(line, self.inputs.as_mut_slice()).ok_or(CallRefusal::Count)?;
         self.run.step(
             self.inputs.as_slice(),
             self.cells.as_mut_slice(),
@@ -90,13 +79,12 @@ impl<'b, 'f, K: WithUnknown> Desk<'b, 'f, K> {
         requires { Ready self.old }
         ensures { OnOk result (Answered K.Signal.kind K.WithUnknown.blank self.old line.now self.new (string_bytes text.old) (string_bytes text.new)) }
     {
+        let cycle = self.run.cycle();
         match self.step(line) {
             Ok(count) => {
-                let at = usize::from(self.steps) * self.outputs;
+                let at = usize::from(cycle) * self.outputs;
                 let outputs = &self.tape.as_slice()[at..at + self.outputs];
-                push_step_line(text, self.steps, outputs, count)?;
-                self.steps += 1;
-                Ok(())
+                push_step_line(text, cycle, outputs, count)
             }
             Err(refusal) => push_refused_line(text, refusal.number()),
         }
@@ -113,7 +101,7 @@ impl<'b, 'f, K: WithUnknown> Desk<'b, 'f, K> {
             self.answer(cut.line, text)?;
             rest = cut.rest;
         }
-        push_ended_line(text, self.steps)
+        push_ended_line(text, self.run.cycle())
     }
 }
 

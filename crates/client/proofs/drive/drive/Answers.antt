@@ -1,16 +1,18 @@
 use Rattle.std.proofs.Common.{◌+◌, ◌<◌, ◌≤◌, false, ◌++◌, length, take, drop, set, replicate, sym, refl, ap, ◌∙◌, arith}
 use Rattle.std.proofs.lemmas.List.{length-set}
+use Rattle.signal.specs.Bits.{bits}
 use Rattle.rules.specs.Boards.{top, cells}
 use Rattle.rules.specs.Judging.{board_of}
 use Rattle.walk.specs.Steps.{design_in}
 use Rattle.run.specs.Calls.{run_top}
 use Rattle.client.specs.Drives.{turns_from}
-use Rattle.client.proofs.Turns.{begun, seen, once_more, all_found}
+use Rattle.run.proofs.Starts.{begun}
+use Rattle.client.proofs.Turns.{seen, once_more, all_found}
 use Rattle.client.proofs.drive.drive.Goals as goal
 
 pub loop-cycle-init : goal.loop-cycle-init
 loop-cycle-init c =
-    (c.power.auto.cells, refl, refl, refl, refl, refl, (begun (design_in c.seal-board.result) c.power.new.cells _ _ c.in_ok-run.ensures.start).1, refl)
+    (c.power.auto.cells, refl, refl, refl, refl, refl, (begun bits (design_in c.seal-board.result) c.power.new.cells _ _ c.in_ok-run.ensures.start).1, refl)
 
 pub loop-cycle-preserved : goal.loop-cycle-preserved
 loop-cycle-preserved c =
@@ -33,7 +35,7 @@ returns c =
     let start = c.in_ok-run.ensures in
     let board = ap (λ j. top (board_of j.file.now)) c.seal-board.ensures ∙ ap (λ f. top (board_of f)) judged.1.file in
     let design = ap design_in start.memory ∙ board in
-    let low = (begun (design_in c.seal-board.result) c.power.new.cells _ _ start.start).0 ∙ ap (λ d. replicate (cells d) false) board in
+    let low = (begun bits (design_in c.seal-board.result) c.power.new.cells _ _ start.start).0 ∙ ap (λ d. replicate (cells d) false) board in
     let rows = c.args.switches.now in
     let inv = c.loop-cycle.invariant in
     let few : length c.loop-cycle.turns ≤ c.loop-cycle.cycle = omega (arith, inv.4, c.loop-cycle-test.false) in

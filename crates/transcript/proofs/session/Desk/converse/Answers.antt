@@ -24,5 +24,5 @@ returns g c =
     let t = string_bytes c.loop-rest.text in
     let text = string_bytes c.push_ended_line.new.text in
     let s = c.loop-rest.self in
-    let end = answers_none g.K.Signal.kind g.K.WithUnknown.blank s c.loop-rest.rest.now (true-eqb _ _ c.loop-rest-test.ensures) c.loop-rest.invariant.0 in
-    IfOk-weaker c.push_ended_line.result (λ _. text ≡ t ++ ended_line s.steps) _ (λ _ h. h ∙ ap (λ bs. t ++ bs) (sym end) ∙ c.loop-rest.invariant.2) c.push_ended_line.ensures
+    let end = answers_none g.K.Signal.kind g.K.WithUnknown.blank s c.loop-rest.rest.now (true-eqb _ _ c.loop-rest-test.ensures) in
+    IfOk-weaker c.push_ended_line.result (λ _. text ≡ t ++ ended_line c.cycle.result) _ (λ _ h. h ∙ ap (λ n. t ++ ended_line n) c.cycle.ensures ∙ ap (λ bs. t ++ bs) (sym end) ∙ c.loop-rest.invariant.2) c.push_ended_line.ensures

@@ -1,8 +1,8 @@
-use Rattle.std.proofs.Common.{◌≡◌, Some, ap, ◌∙◌}
+use Rattle.std.proofs.Common.{◌≡◌, true, is_ok, is_some, Some, sym, ap, ◌∙◌}
 use Rattle.std.proofs.lemmas.List.{with_items_is}
 use Rattle.rules.specs.Boards.{in_count}
 use Rattle.transcript.specs.Desks.{design_of}
-use Rattle.transcript.specs.Lines.{inputs_of}
+use Rattle.transcript.specs.Lines.{inputs_of, read_as}
 use Rattle.transcript.proofs.Desking.{told_step}
 use Rattle.transcript.proofs.session.Desk.step.Goals as goal
 
@@ -14,6 +14,7 @@ returns g c =
     let vs = c.parse_line.new.inputs in
     let line = c.args.line.now in
     let long = c.as_mut_slice.ensures.len ∙ c.requires.lent.inputs in
-    let read : Some vs ≡ inputs_of K u (in_count (design_of s)) line = c.if-not-parse_line.ensures.read ∙ ap (λ n. inputs_of K u n line) long in
+    let some : is_some c.parse_line.result ≡ true = sym c.ok_or.ensures.variant ∙ ap is_ok c.in_ok-ok_or.was in
+    let read : Some vs ≡ inputs_of K u (in_count (design_of s)) line = ap (λ b. read_as b vs) (sym some) ∙ c.parse_line.ensures.read ∙ ap (λ n. inputs_of K u n line) long in
     let ins_is = c.as_slice.ensures.value ∙ with_items_is s.inputs vs (c.parse_line.auto.inputs ∙ c.as_mut_slice.ensures.len) in
     told_step K u s line c.requires vs c.as_slice.result.now c.as_mut_slice-2.result.now c.as_mut_slice-3.result.now c.as_mut_slice-4.result.now c.as_mut_slice-5.result.now read ins_is c.as_mut_slice-2.ensures.value c.as_mut_slice-3.ensures.value c.as_mut_slice-4.ensures.value c.as_mut_slice-5.ensures.value c.step.new.self c.step.new.cells c.step.new.tape c.step.new.work c.step.new.levels c.step.auto.cells c.step.auto.tape c.step.ensures.board c.step.result c.step.ensures.step
