@@ -1,5 +1,5 @@
 -- The steps of a drive, read off the tape.
-use Rattle.std.proofs.Common.{◌≡◌, ℕ, ◌+◌, ◌*◌, ◌<◌, ◌≤◌, Bool, true, false, cond, not, ◌&&◌, eqb, ltb, leb, List, [], ◌∷◌, ◌++◌, length, get_or, take, drop, set, replicate, Ok, sym, refl, ap, ◌∙◌, add-mul, one-mul, arith}
+use Rattle.std.proofs.Common.{◌≡◌, ℕ, ◌+◌, ◌*◌, ◌<◌, ◌≤◌, Bool, false, not, ◌&&◌, eqb, ltb, leb, List, [], ◌∷◌, ◌++◌, length, get_or, take, drop, set, Ok, sym, ap, ◌∙◌, arith}
 use lib.ListN.{length-map}
 use Rattle.std.proofs.lemmas.List.{append-nil, append_assoc, get_or_append_left, get_or-append-add, length-take-le, take_all, drop_all, take_more_set, drop_more}
 use Rattle.std.proofs.lemmas.Bool.{leb-true, ltb-true, and_parts}
@@ -7,7 +7,7 @@ use Rattle.signal.specs.Bits.{bits}
 use Rattle.signal.specs.GateValues.{input}
 use Rattle.rules.specs.Boards.{Design, in_count, out_wires, cells}
 use Rattle.flat.specs.Passes.{step_of, first}
-use Rattle.flat.specs.Runs.{Run, Start, not_started, started, power, refusal, look, unless}
+use Rattle.flat.specs.Runs.{refusal, look}
 use Rattle.run.proofs.Slices.{passes}
 use Rattle.run.proofs.Tapes.{next_cycle}
 use Rattle.run.specs.Calls.{Memory, StepContract, LookContract, with_cycle}

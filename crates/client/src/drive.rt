@@ -4,7 +4,7 @@ ghost use Rattle.client.specs.Drives.{Driven};
 
 use crate::trouble::Trouble;
 use board::{judge, seal};
-use run::{Level, power};
+use run::{LEVEL_RECORDS, Level, WORKING_VALUES, power};
 
 // Whether the engine turns in each of three steps after power.
 pub fn drive(file: &[u8], switches: &[[bool; 5]; 3]) -> Result<[bool; 3], Trouble>
@@ -14,8 +14,8 @@ pub fn drive(file: &[u8], switches: &[[bool; 5]; 3]) -> Result<[bool; 3], Troubl
     let board = seal(judged);
     let mut cells = [false; 1];
     let mut tape = [false; 6];
-    let mut work = [false; 1024];
-    let mut levels = [Level::new(); 8];
+    let mut work = [false; WORKING_VALUES];
+    let mut levels = [Level::new(); LEVEL_RECORDS];
     let mut run = power(&board, &mut cells)?;
     let mut turns = [false; 3];
     for (cycle, inputs) in switches.iter().enumerate() {
@@ -29,6 +29,7 @@ pub fn drive(file: &[u8], switches: &[[bool; 5]; 3]) -> Result<[bool; 3], Troubl
 fn rewrite(file: &mut [u8], place: usize, byte: u8)
     ensures { file.new ≡ slice_set file.old place byte }
 {
+    // Stays: after a write through `get_mut` a proof knows only how long the file is.
     if place < file.len() {
         file[place] = byte;
     }

@@ -26,15 +26,7 @@ const NO_GATE: u8 = 12;
 fn show(rt: &HostRuntime, what: &str, outcome: Result<[bool; 3], Trouble>) -> io::Result<()> {
     match outcome {
         Ok(answer) => println!(rt; "{what}: {answer:?}"),
-        Err(Trouble::File(refusal)) => {
-            let number = refusal.number();
-            let place = refusal.place();
-            println!(rt; "{what}: the file is refused by {number} at {place}")
-        }
-        Err(Trouble::Call(refusal)) => {
-            let number = refusal.number();
-            println!(rt; "{what}: a call is refused by {number}")
-        }
+        Err(trouble) => println!(rt; "{what}: {trouble}"),
     }
 }
 

@@ -4,9 +4,10 @@ ghost use Rattle.client.specs.declared.trouble.Trouble.TheVariants.{File, Call};
 
 use board::Refusal;
 use run::CallRefusal;
+use std::fmt;
 
 // The file is no board, or a call on the run is refused.
-#[derive(Clone, Copy)]
+#[derive(Clone, Copy, PartialEq, Eq, Debug)]
 pub enum Trouble {
     File(Refusal),
     Call(CallRefusal),
@@ -25,5 +26,21 @@ impl From<CallRefusal> for Trouble {
 
     fn from(refusal: CallRefusal) -> Trouble {
         Trouble::Call(refusal)
+    }
+}
+
+impl fmt::Display for Trouble {
+    fn fmt<W: fmt::Write>(&self, f: &mut fmt::Formatter<W>) -> fmt::Result {
+        match self {
+            Trouble::File(refusal) => {
+                let number = refusal.number();
+                let place = refusal.place();
+                write!(f, "the file is refused by {number} at {place}")
+            }
+            Trouble::Call(refusal) => {
+                let number = refusal.number();
+                write!(f, "a call is refused by {number}")
+            }
+        }
     }
 }
