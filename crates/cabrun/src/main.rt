@@ -23,21 +23,18 @@ fn read_input(rt: &HostRuntime, file: &[u8]) -> io::Result<Vec<u8>> {
     Ok(input)
 }
 
-// Says on standard error what failed, and hands the result on.
-fn told<T, E: Display>(rt: &HostRuntime, failure: &str, outcome: Result<T, E>) -> Result<T, E> {
-    if let Err(e) = &outcome {
-        let _ = eprintln!(rt; "cabrun: {failure}: {e}");
-    }
-    outcome
+// Says on standard error what failed.
+fn tell<E: Display>(rt: &HostRuntime, failure: &str, error: &E) {
+    let _ = eprintln!(rt; "cabrun: {failure}: {error}");
 }
 
 fn run(rt: &HostRuntime) -> io::Result<()> {
-    let file = told(rt, "board.bin cannot be read", read_board(rt))?;
+    let file = read_board(rt).inspect_err(|e| tell(rt, "board.bin cannot be read", e))?;
     let input = read_input(rt, file.as_slice());
-    let input = told(rt, "standard input cannot be read", input)?;
+    let input = input.inspect_err(|e| tell(rt, "standard input cannot be read", e))?;
     let text = cab_transcript(rt.alloc(), file.as_slice(), input.as_slice());
-    let text = told(rt, "the text cannot be made", text)?;
-    told(rt, "the text cannot be printed", print!(rt; "{text}"))
+    let text = text.inspect_err(|e| tell(rt, "the text cannot be made", e))?;
+    print!(rt; "{text}").inspect_err(|e| tell(rt, "the text cannot be printed", e))
 }
 
 // What failed has been said where it failed.
