@@ -54,10 +54,23 @@ pub struct Room {
     pub levels: usize,
 }
 
-#[derive(Drop)]
+// Why a call is refused, by the numbers of the rules for runs.
+#[derive(Clone, Copy, PartialEq, Eq, Debug)]
+pub enum Refusal {
+    Count = 13,
+    Index = 14,
+    Fit = 15,
+    Tape = 16,
+    Unseen = 17,
+}
+
+// What a call answers that is not refused.
+#[derive(Clone, Copy, PartialEq, Eq, Debug)]
 pub enum Answer<V> {
-    Refused(u8),
     Counted(usize),
     Done,
     Value(V),
 }
+
+// What a call comes to.
+pub type Outcome<V> = Result<Answer<V>, Refusal>;

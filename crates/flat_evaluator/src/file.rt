@@ -1,10 +1,7 @@
 // Board files, decoded without the library.
 use crate::fault::Fault;
+use crate::function::Function;
 use std::alloc::Global;
-
-const CELL: usize = 11;
-
-const FIRST_MODULE: usize = 256;
 
 // Its inputs and outputs are wires of its own.
 #[derive(Drop)]
@@ -26,102 +23,104 @@ pub struct Use {
 
 #[derive(Clone, Copy)]
 pub enum Part {
-    Gate(usize),
+    Gate(Function),
     Cell,
     Module(usize),
 }
 
+impl TryFrom<u16> for Part {
+    type Error = Fault;
+
+    fn try_from(reference: u16) -> Result<Part, Fault> {
+        match reference {
+            11 => Ok(Part::Cell),
+            256.. => Ok(Part::Module(usize::from(reference - 256))),
+            _ => Ok(Part::Gate(Function::try_from(reference)?)),
+        }
+    }
+}
+
+#[derive(Clone, Copy)]
+enum Record {
+    Board = 1,
+    Module = 2,
+    Use = 3,
+}
+
+// What is left of a file.
 #[derive(Drop)]
 struct Reader<'a> {
+    heap: Global,
     rest: &'a [u8],
 }
 
+pub fn decode(heap: Global, file: &[u8]) -> Result<Vec<Module>, Fault> {
+    let mut reader = Reader { heap, rest: file };
+    reader.head(Record::Board)?;
+    let count = reader.pair()?;
+    (0..count).map(|_| reader.module()).try_collect(heap)
+}
+
 impl<'a> Reader<'a> {
-    fn byte(&mut self) -> Result<usize, Fault> {
-        let Some((first, rest)) = self.rest.split_first() else {
+    fn bytes<const N: usize>(&mut self) -> Result<[u8; N], Fault> {
+        let Some((bytes, rest)) = self.rest.split_first_chunk::<N>() else {
             return Err(Fault::File);
         };
         self.rest = rest;
-        Ok(usize::from(*first))
+        Ok(*bytes)
     }
 
-    fn pair(&mut self) -> Result<usize, Fault> {
-        let low = self.byte()?;
-        let high = self.byte()?;
-        Ok(low.saturating_add(high.saturating_mul(256)))
+    fn pair(&mut self) -> Result<u16, Fault> {
+        Ok(u16::from_le_bytes(self.bytes()?))
     }
 
     // The length and the kind before a record's body, of which the kind says enough.
-    fn head(&mut self, kind: usize) -> Result<(), Fault> {
-        self.pair()?;
-        if self.pair()? == kind {
+    fn head(&mut self, record: Record) -> Result<(), Fault> {
+        let _length = self.pair()?;
+        if self.pair()? == record as u16 {
             Ok(())
         } else {
             Err(Fault::File)
         }
     }
 
-    fn list(&mut self, heap: Global, count: usize) -> Result<Vec<usize>, Fault> {
-        let mut numbers = Vec::new(heap);
-        for _ in 0..count {
-            numbers.push(self.byte()?)?;
-        }
-        Ok(numbers)
+    fn list(&mut self, count: u8) -> Result<Vec<usize>, Fault> {
+        let Some((list, rest)) = self.rest.split_at_checked(usize::from(count)) else {
+            return Err(Fault::File);
+        };
+        self.rest = rest;
+        Ok(
+            list.iter()
+                .map(|number| usize::from(*number))
+                .collect(self.heap)?,
+        )
     }
 
-    fn uses(&mut self, heap: Global, count: usize) -> Result<Vec<Use>, Fault> {
-        let mut uses = Vec::new(heap);
-        for _ in 0..count {
-            uses.push(decode_use(heap, self)?)?;
-        }
-        Ok(uses)
+    fn module(&mut self) -> Result<Module, Fault> {
+        self.head(Record::Module)?;
+        let [inputs, outputs, wires, uses, states] = self.bytes::<5>()?;
+        Ok(Module {
+            inputs: (0..usize::from(inputs)).collect(self.heap)?,
+            outputs: self.list(outputs)?,
+            wires: usize::from(wires),
+            states: self.list(states)?,
+            uses: self.uses(uses)?,
+        })
     }
-}
 
-pub fn decode(heap: Global, file: &[u8]) -> Result<Vec<Module>, Fault> {
-    let mut reader = Reader { rest: file };
-    reader.head(1)?;
-    let count = reader.pair()?;
-    let mut modules = Vec::new(heap);
-    for _ in 0..count {
-        modules.push(decode_module(heap, &mut reader)?)?;
+    fn uses(&mut self, count: u8) -> Result<Vec<Use>, Fault> {
+        let heap = self.heap;
+        (0..count).map(|_| self.occurrence()).try_collect(heap)
     }
-    Ok(modules)
-}
 
-fn decode_module(heap: Global, reader: &mut Reader<'_>) -> Result<Module, Fault> {
-    reader.head(2)?;
-    let counts = reader.list(heap, 5)?;
-    let [inputs, outputs, wires, uses, states] = counts.as_slice() else {
-        return Err(Fault::File);
-    };
-    Ok(Module {
-        inputs: (0..*inputs).collect(heap)?,
-        outputs: reader.list(heap, *outputs)?,
-        wires: *wires,
-        states: reader.list(heap, *states)?,
-        uses: reader.uses(heap, *uses)?,
-    })
-}
-
-fn decode_use(heap: Global, reader: &mut Reader<'_>) -> Result<Use, Fault> {
-    reader.head(3)?;
-    let part = part_of(reader.pair()?);
-    let inputs = reader.byte()?;
-    let outputs = reader.byte()?;
-    Ok(Use {
-        part,
-        inputs: reader.list(heap, inputs)?,
-        outputs: reader.list(heap, outputs)?,
-    })
-}
-
-fn part_of(reference: usize) -> Part {
-    if reference >= FIRST_MODULE {
-        Part::Module(reference - FIRST_MODULE)
-    } else if reference == CELL {
-        Part::Cell
-    } else {
-        Part::Gate(reference)
+    fn occurrence(&mut self) -> Result<Use, Fault> {
+        self.head(Record::Use)?;
+        let part = Part::try_from(self.pair()?)?;
+        let [inputs, outputs] = self.bytes::<2>()?;
+        Ok(Use {
+            part,
+            inputs: self.list(inputs)?,
+            outputs: self.list(outputs)?,
+        })
     }
 }

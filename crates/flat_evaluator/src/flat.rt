@@ -1,10 +1,11 @@
 // A flat board: gates and cells on wires.
 use crate::fault::Fault;
+use crate::function::Function;
 use std::alloc::Global;
 
 #[derive(Clone, Copy)]
 pub struct Gate {
-    pub function: usize,
+    pub function: Function,
     pub pins: usize,
     pub wires: [usize; 3],
     pub output: usize,

@@ -1,20 +1,10 @@
 // A run of a flat board, with refusals of its own.
-use crate::calls::{Answer, Call, Room};
+use crate::calls::{Answer, Call, Outcome, Refusal, Room};
 use crate::fault::Fault;
 use crate::flat::Flat;
 use crate::settle::settle;
 use crate::values::{Value, value_at};
 use std::alloc::Global;
-
-const COUNT: u8 = 13;
-
-const INDEX: u8 = 14;
-
-const FIT: u8 = 15;
-
-const TAPE: u8 = 16;
-
-const UNSEEN: u8 = 17;
 
 const MOST_CYCLES: usize = 65_535;
 
@@ -34,10 +24,21 @@ impl<V: Value> FlatRun<V> {
         flat: &Flat,
         call: &Call,
         handed: &[V],
-    ) -> Result<Answer<V>, Fault> {
-        if let Some(number) = self.refusal(flat, call) {
-            return Ok(Answer::Refused(number));
+    ) -> Result<Outcome<V>, Fault> {
+        if let Err(refusal) = self.accept(flat, call) {
+            return Ok(Err(refusal));
         }
+        Ok(Ok(self.answer(heap, flat, call, handed)?))
+    }
+
+    // What a call answers that is not refused.
+    fn answer(
+        &mut self,
+        heap: Global,
+        flat: &Flat,
+        call: &Call,
+        handed: &[V],
+    ) -> Result<Answer<V>, Fault> {
         match call {
             Call::Power { cells } => {
                 self.lower_cells(*cells);
@@ -59,31 +60,31 @@ impl<V: Value> FlatRun<V> {
         Ok(Answer::Done)
     }
 
-    fn refusal(&self, flat: &Flat, call: &Call) -> Option<u8> {
+    fn accept(&self, flat: &Flat, call: &Call) -> Result<(), Refusal> {
         match call {
-            Call::Step(room) if room.inputs != flat.inputs.len() => Some(COUNT),
-            Call::Set { cell, .. } | Call::Read { cell, .. } if *cell >= flat.cells.len() => Some(
-                INDEX,
+            Call::Step(room) if room.inputs != flat.inputs.len() => Err(Refusal::Count),
+            Call::Set { cell, .. } | Call::Read { cell, .. } if *cell >= flat.cells.len() => Err(
+                Refusal::Index,
             ),
-            Call::Look { output, .. } if *output >= flat.outputs.len() => Some(INDEX),
-            _ if call.cells() != flat.cells.len() => Some(FIT),
-            Call::Step(room) => self.step_refusal(flat, room),
-            Call::Look { tape, .. } if *tape < tape_place(flat, self.cycle) => Some(FIT),
-            Call::Look { cycle, .. } if *cycle >= self.cycle => Some(UNSEEN),
-            _ => None,
+            Call::Look { output, .. } if *output >= flat.outputs.len() => Err(Refusal::Index),
+            _ if call.cells() != flat.cells.len() => Err(Refusal::Fit),
+            Call::Step(room) => self.accept_step(flat, room),
+            Call::Look { tape, .. } if *tape < tape_place(flat, self.cycle) => Err(Refusal::Fit),
+            Call::Look { cycle, .. } if *cycle >= self.cycle => Err(Refusal::Unseen),
+            _ => Ok(()),
         }
     }
 
-    // Of a step with the right numbers of inputs and cells.
-    fn step_refusal(&self, flat: &Flat, room: &Room) -> Option<u8> {
+    // A step with the right numbers of inputs and cells.
+    fn accept_step(&self, flat: &Flat, room: &Room) -> Result<(), Refusal> {
         if room.values < 1024 || room.levels < 8 {
-            Some(FIT)
+            Err(Refusal::Fit)
         } else if tape_place(flat, self.cycle.saturating_add(1)) > room.tape
             || self.cycle >= MOST_CYCLES
         {
-            Some(TAPE)
+            Err(Refusal::Tape)
         } else {
-            None
+            Ok(())
         }
     }
 

@@ -3,6 +3,7 @@
 use crate::fault::Fault;
 use crate::file::{Module, Part, Use};
 use crate::flat::{Cell, Flat, Gate, readers_of};
+use crate::function::Function;
 use crate::joints::{Joints, Names, Wires};
 use std::alloc::Global;
 
@@ -27,7 +28,7 @@ impl Inside {
         }
     }
 
-    fn gate(&self, names: &Names, function: usize, used: &Use) -> Gate {
+    fn gate(&self, names: &Names, function: Function, used: &Use) -> Gate {
         let mut wires = [0; 3];
         for (pin, wire) in wires.iter_mut().enumerate() {
             *wire = names.on_pin(self.wires(&used.inputs), pin);

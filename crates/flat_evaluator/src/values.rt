@@ -1,21 +1,6 @@
 // Values of the flat board, with each gate by its truth table or by the definition of the kind.
 
-const PICK: usize = 10;
-
-// For the gates 0 to 10, what a gate gives of its inputs 000, 001, 010, 011, 100, 101, 110 and 111, the first input first.
-const TRUTH: [[bool; 8]; 11] = [
-    [false, false, false, false, false, false, false, false],
-    [true, true, true, true, true, true, true, true],
-    [false, false, false, false, true, true, true, true],
-    [true, true, true, true, false, false, false, false],
-    [false, false, false, false, false, false, true, true],
-    [false, false, true, true, true, true, true, true],
-    [false, false, true, true, true, true, false, false],
-    [true, true, true, true, true, true, false, false],
-    [true, true, false, false, false, false, false, false],
-    [true, true, false, false, false, false, true, true],
-    [false, true, false, true, false, false, true, true],
-];
+use crate::function::Function;
 
 const BITS: [bool; 2] = [false, true];
 
@@ -26,13 +11,11 @@ pub struct Situation {
     pub marks: [bool; 64],
 }
 
-pub trait Value: Clone + Copy {
+pub trait Value: Clone + Copy + PartialEq {
     fn of_bit(bit: bool) -> Self;
 
     // What a gate gives; one of fewer than three inputs is handed 0 for the others.
-    fn gate(function: usize, a: Self, b: Self, c: Self) -> Self;
-
-    fn same(&self, other: &Self) -> bool;
+    fn gate(function: Function, a: Self, b: Self, c: Self) -> Self;
 
     fn admits(&self, situation: &Situation, bit: bool) -> bool;
 
@@ -45,27 +28,13 @@ pub fn value_at<V: Value>(values: &Vec<V>, place: usize) -> V {
     values.get(place).copied().unwrap_or(V::of_bit(false))
 }
 
-fn truth(function: usize, a: bool, b: bool, c: bool) -> bool {
-    let first = usize::from(a).saturating_mul(4);
-    let second = usize::from(b).saturating_mul(2);
-    let column = first.saturating_add(second).saturating_add(usize::from(c));
-    let Some(row) = TRUTH.get(function) else {
-        return false;
-    };
-    row.get(column).copied().unwrap_or(false)
-}
-
 impl Value for bool {
     fn of_bit(bit: bool) -> bool {
         bit
     }
 
-    fn gate(function: usize, a: bool, b: bool, c: bool) -> bool {
-        truth(function, a, b, c)
-    }
-
-    fn same(&self, other: &bool) -> bool {
-        *self == *other
+    fn gate(function: Function, a: bool, b: bool, c: bool) -> bool {
+        function.truth(a, b, c)
     }
 
     fn admits(&self, _situation: &Situation, bit: bool) -> bool {
@@ -74,7 +43,7 @@ impl Value for bool {
 }
 
 // A level as the bits that it can be.
-#[derive(Clone, Copy)]
+#[derive(Clone, Copy, PartialEq, Eq, Debug)]
 pub struct BitSet {
     pub zero: bool,
     pub one: bool,
@@ -87,7 +56,7 @@ impl BitSet {
 }
 
 // What the fillings of the operands give, each operand by itself.
-fn filled(function: usize, a: BitSet, b: BitSet, c: BitSet) -> BitSet {
+fn filled(function: Function, a: BitSet, b: BitSet, c: BitSet) -> BitSet {
     let mut found = BitSet {
         zero: false,
         one: false,
@@ -96,7 +65,7 @@ fn filled(function: usize, a: BitSet, b: BitSet, c: BitSet) -> BitSet {
         for y in BITS {
             for z in BITS {
                 if a.has(x) && b.has(y) && c.has(z) {
-                    let bit = truth(function, x, y, z);
+                    let bit = function.truth(x, y, z);
                     found.one = found.one || bit;
                     found.zero = found.zero || !bit;
                 }
@@ -115,8 +84,8 @@ impl Value for BitSet {
     }
 
     // An unknown selector gives an unknown, whatever the data are.
-    fn gate(function: usize, a: BitSet, b: BitSet, c: BitSet) -> BitSet {
-        if function != PICK {
+    fn gate(function: Function, a: BitSet, b: BitSet, c: BitSet) -> BitSet {
+        if function != Function::Pick {
             filled(function, a, b, c)
         } else if a.zero && a.one {
             a
@@ -127,17 +96,13 @@ impl Value for BitSet {
         }
     }
 
-    fn same(&self, other: &BitSet) -> bool {
-        self.zero == other.zero && self.one == other.one
-    }
-
     fn admits(&self, _situation: &Situation, bit: bool) -> bool {
         self.has(bit)
     }
 }
 
 // 64 single bits.
-#[derive(Clone, Copy)]
+#[derive(Clone, Copy, PartialEq, Eq, Debug)]
 pub struct Row {
     pub bits: [bool; 64],
 }
@@ -147,16 +112,12 @@ impl Value for Row {
         Row { bits: [bit; 64] }
     }
 
-    fn gate(function: usize, a: Row, b: Row, c: Row) -> Row {
+    fn gate(function: Function, a: Row, b: Row, c: Row) -> Row {
         let mut bits = [false; 64];
         for i in 0..64usize {
-            bits[i] = truth(function, a.bits[i], b.bits[i], c.bits[i]);
+            bits[i] = function.truth(a.bits[i], b.bits[i], c.bits[i]);
         }
         Row { bits }
-    }
-
-    fn same(&self, other: &Row) -> bool {
-        self.bits == other.bits
     }
 
     fn admits(&self, situation: &Situation, bit: bool) -> bool {
@@ -165,7 +126,7 @@ impl Value for Row {
 }
 
 // A value under a set of marks.
-#[derive(Clone, Copy)]
+#[derive(Clone, Copy, PartialEq, Eq, Debug)]
 pub struct Marked<V> {
     pub below: V,
     pub marks: [bool; 64],
@@ -179,7 +140,7 @@ impl<V: Value> Value for Marked<V> {
         }
     }
 
-    fn gate(function: usize, a: Marked<V>, b: Marked<V>, c: Marked<V>) -> Marked<V> {
+    fn gate(function: Function, a: Marked<V>, b: Marked<V>, c: Marked<V>) -> Marked<V> {
         let mut marks = [false; 64];
         for i in 0..64usize {
             marks[i] = a.marks[i] || b.marks[i] || c.marks[i];
@@ -188,10 +149,6 @@ impl<V: Value> Value for Marked<V> {
             below: V::gate(function, a.below, b.below, c.below),
             marks,
         }
-    }
-
-    fn same(&self, other: &Marked<V>) -> bool {
-        self.below.same(&other.below) && self.marks == other.marks
     }
 
     fn admits(&self, situation: &Situation, bit: bool) -> bool {
