@@ -3,22 +3,46 @@ use crate::fault::Fault;
 use crate::function::Function;
 use std::alloc::Global;
 
-// Its inputs and outputs are wires of its own.
+// Its pins are wires of its own.
 #[derive(Drop)]
 pub struct Module {
-    pub inputs: Vec<usize>,
-    pub outputs: Vec<usize>,
+    pub pins: Pins,
     pub wires: usize,
     pub states: Vec<usize>,
     pub uses: Vec<Use>,
 }
 
-// An occurrence, with the wires on its pins.
+// An occurrence, with wires of the module that it is in.
 #[derive(Drop)]
 pub struct Use {
     pub part: Part,
+    pub pins: Pins,
+}
+
+// The wires on the inputs and on the outputs.
+#[derive(Drop)]
+pub struct Pins {
     pub inputs: Vec<usize>,
     pub outputs: Vec<usize>,
+}
+
+impl Pins {
+    // The same wires where the module's wires are numbered from the first on.
+    pub fn numbered_from(&self, heap: Global, first: usize) -> Result<Pins, Fault> {
+        Ok(Pins {
+            inputs: numbered(heap, first, self.inputs.as_slice())?,
+            outputs: numbered(heap, first, self.outputs.as_slice())?,
+        })
+    }
+}
+
+fn numbered(heap: Global, first: usize, wires: &[usize]) -> Result<Vec<usize>, Fault> {
+    Ok(
+        wires
+            .iter()
+            .map(|wire| first.saturating_add(*wire))
+            .collect(heap)?,
+    )
 }
 
 #[derive(Clone, Copy)]
@@ -100,8 +124,10 @@ impl<'a> Reader<'a> {
         self.head(Record::Module)?;
         let [inputs, outputs, wires, uses, states] = self.bytes::<5>()?;
         Ok(Module {
-            inputs: (0..usize::from(inputs)).collect(self.heap)?,
-            outputs: self.list(outputs)?,
+            pins: Pins {
+                inputs: (0..usize::from(inputs)).collect(self.heap)?,
+                outputs: self.list(outputs)?,
+            },
             wires: usize::from(wires),
             states: self.list(states)?,
             uses: self.uses(uses)?,
@@ -119,8 +145,10 @@ impl<'a> Reader<'a> {
         let [inputs, outputs] = self.bytes::<2>()?;
         Ok(Use {
             part,
-            inputs: self.list(inputs)?,
-            outputs: self.list(outputs)?,
+            pins: Pins {
+                inputs: self.list(inputs)?,
+                outputs: self.list(outputs)?,
+            },
         })
     }
 }

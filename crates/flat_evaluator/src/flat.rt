@@ -1,22 +1,36 @@
 // A flat board: gates and cells on wires.
 use crate::fault::Fault;
 use crate::function::Function;
+use crate::joints::Names;
 use std::alloc::Global;
 
-#[derive(Clone, Copy)]
+#[derive(Drop)]
 pub struct Gate {
     pub function: Function,
-    pub pins: usize,
-    pub wires: [usize; 3],
+    pub inputs: Vec<usize>,
     pub output: usize,
     // How many modules below the top, on the way to it, hold cells.
     pub holders: usize,
+}
+
+impl Gate {
+    pub(crate) fn rename(&mut self, names: &Names) {
+        names.rename(self.inputs.as_mut_slice());
+        self.output = names.of(self.output);
+    }
 }
 
 #[derive(Clone, Copy)]
 pub struct Cell {
     pub input: usize,
     pub output: usize,
+}
+
+impl Cell {
+    pub(crate) fn rename(&mut self, names: &Names) {
+        self.input = names.of(self.input);
+        self.output = names.of(self.output);
+    }
 }
 
 #[derive(Drop)]
@@ -26,7 +40,7 @@ pub struct Flat {
     pub gates: Vec<Gate>,
     // In the order of the state lists.
     pub cells: Vec<Cell>,
-    // For each wire the gates that read it, once for each pin.
+    // For each wire the gates that read it.
     pub readers: Vec<Vec<usize>>,
     pub places: usize,
     pub depth: usize,
@@ -35,46 +49,58 @@ pub struct Flat {
 impl Flat {
     // Each gate once, and once more for every cell-holding module below the top on the way to it.
     pub fn count(&self) -> usize {
-        let mut count: usize = 0;
-        for gate in self.gates.iter() {
-            count = count.saturating_add(gate.holders).saturating_add(1);
+        self.gates.iter().fold(0, |count: usize, gate| {
+            count.saturating_add(gate.holders).saturating_add(1)
+        })
+    }
+
+    // How many tape values so many cycles have.
+    pub fn tape_len(&self, cycles: usize) -> usize {
+        cycles.saturating_mul(self.outputs.len())
+    }
+
+    pub fn readers(&self, wire: usize) -> &[usize] {
+        match self.readers.get(wire) {
+            Some(readers) => readers.as_slice(),
+            None => &[],
         }
-        count
     }
 
     // For each of so many wires, how many inputs, gates and cells drive it.
     pub fn drivers(&self, heap: Global, wires: usize) -> Result<Vec<usize>, Fault> {
         let mut drivers = vec![in heap; 0usize; wires]?;
-        for wire in self.inputs.iter() {
-            add_driver(&mut drivers, *wire);
-        }
-        for gate in self.gates.iter() {
-            add_driver(&mut drivers, gate.output);
-        }
-        for cell in self.cells.iter() {
-            add_driver(&mut drivers, cell.output);
+        let inputs = self.inputs.iter().copied();
+        let gates = self.gates.iter().map(|gate| gate.output);
+        let cells = self.cells.iter().map(|cell| cell.output);
+        for wire in inputs.chain(gates).chain(cells) {
+            if let Some(count) = drivers.get_mut(wire) {
+                *count = count.saturating_add(1);
+            }
         }
         Ok(drivers)
     }
 }
 
-fn add_driver(drivers: &mut Vec<usize>, wire: usize) {
-    if let Some(count) = drivers.get_mut(wire) {
-        *count = count.saturating_add(1);
-    }
-}
-
-pub fn readers_of(heap: Global, gates: &Vec<Gate>, wires: usize) -> Result<Vec<Vec<usize>>, Fault> {
-    let mut readers = Vec::new(heap);
-    for _ in 0..wires {
-        readers.push(Vec::new(heap))?;
-    }
+pub(crate) fn readers_of(
+    heap: Global,
+    gates: &[Gate],
+    wires: usize,
+) -> Result<Vec<Vec<usize>>, Fault> {
+    let mut readers: Vec<Vec<usize>> = (0..wires).map(|_| Vec::new(heap)).collect(heap)?;
     for (number, gate) in gates.iter().enumerate() {
-        for wire in gate.wires.iter().take(gate.pins) {
-            if let Some(list) = readers.get_mut(*wire) {
-                list.push(number)?;
-            }
-        }
+        add_reader(readers.as_mut_slice(), gate, number)?;
     }
     Ok(readers)
+}
+
+// A gate that reads a wire on several pins is its reader once.
+fn add_reader(readers: &mut [Vec<usize>], gate: &Gate, number: usize) -> Result<(), Fault> {
+    for wire in gate.inputs.iter() {
+        if let Some(list) = readers.get_mut(*wire)
+            && list.last().copied() != Some(number)
+        {
+            list.push(number)?;
+        }
+    }
+    Ok(())
 }

@@ -3,7 +3,7 @@ use crate::calls::{Answer, Call, Outcome, Refusal, Room};
 use crate::fault::Fault;
 use crate::flat::Flat;
 use crate::settle::settle;
-use crate::values::{Value, value_at};
+use crate::values::Value;
 use std::alloc::Global;
 
 const MOST_CYCLES: usize = 65_535;
@@ -49,85 +49,91 @@ impl<V: Value> FlatRun<V> {
                 self.cycle = 0;
             }
             Call::Step(_) => return self.step(heap, flat, handed),
-            Call::Set { cell, .. } => put(&mut self.cells, *cell, handed.first()),
+            Call::Set { cell, .. } => self.put_cell(*cell, handed),
             Call::Clear { cells } => self.lower_cells(*cells),
-            Call::Read { cell, .. } => return Ok(Answer::Value(value_at(&self.cells, *cell))),
+            Call::Read { cell, .. } => return Ok(Answer::Value(value_at(
+                self.cells.as_slice(),
+                *cell,
+            ))),
             Call::Look { cycle, output, .. } => {
-                let place = tape_place(flat, *cycle).saturating_add(*output);
-                return Ok(Answer::Value(value_at(&self.tape, place)));
+                let place = flat.tape_len(*cycle).saturating_add(*output);
+                return Ok(Answer::Value(value_at(self.tape.as_slice(), place)));
             }
         }
         Ok(Answer::Done)
     }
 
     fn accept(&self, flat: &Flat, call: &Call) -> Result<(), Refusal> {
+        accept_numbers(flat, call)?;
+        require(call.cells() == flat.cells.len(), Refusal::Fit)?;
         match call {
-            Call::Step(room) if room.inputs != flat.inputs.len() => Err(Refusal::Count),
-            Call::Set { cell, .. } | Call::Read { cell, .. } if *cell >= flat.cells.len() => Err(
-                Refusal::Index,
-            ),
-            Call::Look { output, .. } if *output >= flat.outputs.len() => Err(Refusal::Index),
-            _ if call.cells() != flat.cells.len() => Err(Refusal::Fit),
             Call::Step(room) => self.accept_step(flat, room),
-            Call::Look { tape, .. } if *tape < tape_place(flat, self.cycle) => Err(Refusal::Fit),
-            Call::Look { cycle, .. } if *cycle >= self.cycle => Err(Refusal::Unseen),
+            Call::Look { cycle, tape, .. } => {
+                require(*tape >= flat.tape_len(self.cycle), Refusal::Fit)?;
+                require(*cycle < self.cycle, Refusal::Unseen)
+            }
             _ => Ok(()),
         }
     }
 
     // A step with the right numbers of inputs and cells.
     fn accept_step(&self, flat: &Flat, room: &Room) -> Result<(), Refusal> {
-        if room.values < 1024 || room.levels < 8 {
-            Err(Refusal::Fit)
-        } else if tape_place(flat, self.cycle.saturating_add(1)) > room.tape
-            || self.cycle >= MOST_CYCLES
-        {
-            Err(Refusal::Tape)
-        } else {
-            Ok(())
-        }
+        let filled = flat.tape_len(self.cycle.saturating_add(1));
+        require(room.values >= 1024 && room.levels >= 8, Refusal::Fit)?;
+        require(filled <= room.tape, Refusal::Tape)?;
+        require(self.cycle < MOST_CYCLES, Refusal::Tape)
     }
 
     fn step(&mut self, heap: Global, flat: &Flat, inputs: &[V]) -> Result<Answer<V>, Fault> {
         let wires = settle(heap, flat, inputs, self.cells.as_slice())?;
-        let first = tape_place(flat, self.cycle);
-        for (output, wire) in flat.outputs.iter().enumerate() {
-            put(
-                &mut self.tape,
-                first.saturating_add(output),
-                wires.get(*wire),
-            );
+        let first = flat.tape_len(self.cycle);
+        if let Some(free) = self.tape.as_mut_slice().get_mut(first..) {
+            for (value, wire) in free.iter_mut().zip(flat.outputs.iter()) {
+                *value = wires.value(*wire);
+            }
         }
-        for (number, cell) in flat.cells.iter().enumerate() {
-            put(&mut self.cells, number, wires.get(cell.input));
+        for (value, cell) in self.cells.iter_mut().zip(flat.cells.iter()) {
+            *value = wires.value(cell.input);
         }
         self.cycle = self.cycle.saturating_add(1);
         Ok(Answer::Counted(flat.count()))
     }
 
-    fn put_cells(&mut self, values: &[V]) {
-        for (number, value) in values.iter().enumerate() {
-            put(&mut self.cells, number, Some(value));
+    fn put_cell(&mut self, cell: usize, handed: &[V]) {
+        if let (Some(old), Some(new)) = (self.cells.get_mut(cell), handed.first()) {
+            *old = *new;
+        }
+    }
+
+    fn put_cells(&mut self, handed: &[V]) {
+        for (old, new) in self.cells.iter_mut().zip(handed.iter()) {
+            *old = *new;
         }
     }
 
     fn lower_cells(&mut self, count: usize) {
-        for number in 0..count {
-            put(&mut self.cells, number, Some(&V::of_bit(false)));
+        for value in self.cells.iter_mut().take(count) {
+            *value = V::of_bit(false);
         }
     }
 }
 
-// Where the outputs of a cycle begin on the tape.
-fn tape_place(flat: &Flat, cycle: usize) -> usize {
-    cycle.saturating_mul(flat.outputs.len())
+// The numbers of inputs, cells and outputs that a call says.
+fn accept_numbers(flat: &Flat, call: &Call) -> Result<(), Refusal> {
+    match call {
+        Call::Step(room) => require(room.inputs == flat.inputs.len(), Refusal::Count),
+        Call::Set { cell, .. } | Call::Read { cell, .. } => {
+            require(*cell < flat.cells.len(), Refusal::Index)
+        }
+        Call::Look { output, .. } => require(*output < flat.outputs.len(), Refusal::Index),
+        _ => Ok(()),
+    }
 }
 
-fn put<V: Value>(values: &mut Vec<V>, place: usize, value: Option<&V>) {
-    let Some(new) = value else {
-        return;
-    };
-    if let Some(entry) = values.get_mut(place) {
-        *entry = *new;
-    }
+fn require(holds: bool, refusal: Refusal) -> Result<(), Refusal> {
+    if holds { Ok(()) } else { Err(refusal) }
+}
+
+fn value_at<V: Value>(values: &[V], place: usize) -> V {
+    values.get(place).copied().unwrap_or(V::of_bit(false))
 }

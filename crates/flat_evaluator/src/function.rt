@@ -59,8 +59,9 @@ impl TryFrom<u16> for Function {
 
     fn try_from(reference: u16) -> Result<Function, Fault> {
         FUNCTIONS
-            .get(usize::from(reference))
+            .iter()
             .copied()
+            .find(|function| *function as u16 == reference)
             .ok_or(Fault::File)
     }
 }

@@ -1,18 +1,13 @@
 // Wires, of which some are joined to one.
 use crate::fault::Fault;
+use crate::file::Pins;
 use std::alloc::Global;
 
-// For each wire one that it is joined to, itself where it stands for all of them.
+// For each wire a lower one that it is joined to, itself where it stands for all of them.
+// Stays: a wire has no name but its number, so what is said of each wire is a Vec by that number, here and in the other files.
 #[derive(Drop)]
 pub struct Joints {
     next: Vec<usize>,
-}
-
-// The wires of a module in a place are numbered from `first` on.
-#[derive(Clone, Copy)]
-pub struct Wires<'a> {
-    pub first: usize,
-    pub list: &'a [usize],
 }
 
 impl Joints {
@@ -22,23 +17,25 @@ impl Joints {
         }
     }
 
-    pub fn len(&self) -> usize {
-        self.next.len()
+    // So many more wires, and the number of the first.
+    pub fn grow(&mut self, wires: usize) -> Result<usize, Fault> {
+        let first = self.next.len();
+        self.next.extend(first..first.saturating_add(wires))?;
+        Ok(first)
     }
 
-    pub fn grow(&mut self, wires: usize) -> Result<(), Fault> {
-        for _ in 0..wires {
-            self.next.push(self.next.len())?;
-        }
-        Ok(())
+    // The pins of an occurrence with those of the module.
+    pub fn join(&mut self, outer: &Pins, inner: &Pins) {
+        self.join_each(outer.inputs.as_slice(), inner.inputs.as_slice());
+        self.join_each(outer.outputs.as_slice(), inner.outputs.as_slice());
     }
 
-    pub fn join(&mut self, outer: Wires<'_>, inner: Wires<'_>) {
-        for (a, b) in outer.list.iter().zip(inner.list.iter()) {
-            let from = self.name(outer.first.saturating_add(*a));
-            let to = self.name(inner.first.saturating_add(*b));
-            if let Some(next) = self.next.get_mut(from) {
-                *next = to;
+    fn join_each(&mut self, outer: &[usize], inner: &[usize]) {
+        for (a, b) in outer.iter().zip(inner.iter()) {
+            let one = self.name(*a);
+            let other = self.name(*b);
+            if let Some(next) = self.next.get_mut(one.max(other)) {
+                *next = one.min(other);
             }
         }
     }
@@ -46,21 +43,20 @@ impl Joints {
     // The wire that stands for all that this one is joined to.
     fn name(&self, wire: usize) -> usize {
         let mut name = wire;
-        for _ in 0..self.next.len() {
-            match self.next.get(name) {
-                Some(next) if *next != name => name = *next,
-                _ => break,
-            }
+        while let Some(next) = self.next.get(name)
+            && *next < name
+        {
+            name = *next;
         }
         name
     }
 
     pub fn names(&self, heap: Global) -> Result<Names, Fault> {
-        let mut names = Vec::new(heap);
-        for wire in 0..self.next.len() {
-            names.push(self.name(wire))?;
-        }
-        Ok(Names { names })
+        Ok(Names {
+            names: (0..self.next.len())
+                .map(|wire| self.name(wire))
+                .collect(heap)?,
+        })
     }
 }
 
@@ -75,33 +71,20 @@ impl Names {
         self.names.len()
     }
 
-    fn of(&self, wire: usize) -> usize {
+    pub fn of(&self, wire: usize) -> usize {
         self.names.get(wire).copied().unwrap_or(0)
     }
 
-    // The name of the wire on a pin.
-    pub fn on_pin(&self, wires: Wires<'_>, pin: usize) -> usize {
-        match wires.list.get(pin) {
-            Some(wire) => self.of(wires.first.saturating_add(*wire)),
-            None => 0,
+    pub fn rename(&self, wires: &mut [usize]) {
+        for wire in wires.iter_mut() {
+            *wire = self.of(*wire);
         }
-    }
-
-    pub fn of_all(&self, heap: Global, wires: Wires<'_>) -> Result<Vec<usize>, Fault> {
-        let mut names = Vec::new(heap);
-        for pin in 0..wires.list.len() {
-            names.push(self.on_pin(wires, pin))?;
-        }
-        Ok(names)
     }
 
     // Whether each wire, by its name, has the count 1.
-    pub fn once_each(&self, counts: &Vec<usize>) -> bool {
-        for name in self.names.iter() {
-            if counts.get(*name).copied() != Some(1) {
-                return false;
-            }
-        }
-        true
+    pub fn once_each(&self, counts: &[usize]) -> bool {
+        self.names
+            .iter()
+            .all(|name| counts.get(*name).copied() == Some(1))
     }
 }

@@ -1,6 +1,6 @@
 // Values of the flat board, with each gate by its truth table or by the definition of the kind.
-
 use crate::function::Function;
+use std::array;
 
 const BITS: [bool; 2] = [false, true];
 
@@ -22,10 +22,6 @@ pub trait Value: Clone + Copy + PartialEq {
     fn is_settled(&self, situation: &Situation) -> bool {
         self.admits(situation, false) != self.admits(situation, true)
     }
-}
-
-pub fn value_at<V: Value>(values: &Vec<V>, place: usize) -> V {
-    values.get(place).copied().unwrap_or(V::of_bit(false))
 }
 
 impl Value for bool {
@@ -55,24 +51,17 @@ impl BitSet {
     }
 }
 
-// What the fillings of the operands give, each operand by itself.
-fn filled(function: Function, a: BitSet, b: BitSet, c: BitSet) -> BitSet {
-    let mut found = BitSet {
-        zero: false,
-        one: false,
-    };
-    for x in BITS {
-        for y in BITS {
-            for z in BITS {
-                if a.has(x) && b.has(y) && c.has(z) {
-                    let bit = function.truth(x, y, z);
-                    found.one = found.one || bit;
-                    found.zero = found.zero || !bit;
-                }
-            }
-        }
-    }
-    found
+// Whether some filling of the operands gives the bit, each operand by itself.
+fn can_give(function: Function, a: BitSet, b: BitSet, c: BitSet, bit: bool) -> bool {
+    BITS.iter().any(|x| {
+        a.has(*x)
+            && BITS.iter().any(|y| {
+                b.has(*y)
+                    && BITS
+                        .iter()
+                        .any(|z| c.has(*z) && function.truth(*x, *y, *z) == bit)
+            })
+    })
 }
 
 impl Value for BitSet {
@@ -86,7 +75,10 @@ impl Value for BitSet {
     // An unknown selector gives an unknown, whatever the data are.
     fn gate(function: Function, a: BitSet, b: BitSet, c: BitSet) -> BitSet {
         if function != Function::Pick {
-            filled(function, a, b, c)
+            BitSet {
+                zero: can_give(function, a, b, c, false),
+                one: can_give(function, a, b, c, true),
+            }
         } else if a.zero && a.one {
             a
         } else if a.one {
@@ -113,11 +105,9 @@ impl Value for Row {
     }
 
     fn gate(function: Function, a: Row, b: Row, c: Row) -> Row {
-        let mut bits = [false; 64];
-        for i in 0..64usize {
-            bits[i] = function.truth(a.bits[i], b.bits[i], c.bits[i]);
+        Row {
+            bits: array::from_fn(|i| function.truth(a.bits[i], b.bits[i], c.bits[i])),
         }
-        Row { bits }
     }
 
     fn admits(&self, situation: &Situation, bit: bool) -> bool {
@@ -141,13 +131,9 @@ impl<V: Value> Value for Marked<V> {
     }
 
     fn gate(function: Function, a: Marked<V>, b: Marked<V>, c: Marked<V>) -> Marked<V> {
-        let mut marks = [false; 64];
-        for i in 0..64usize {
-            marks[i] = a.marks[i] || b.marks[i] || c.marks[i];
-        }
         Marked {
             below: V::gate(function, a.below, b.below, c.below),
-            marks,
+            marks: array::from_fn(|i| a.marks[i] || b.marks[i] || c.marks[i]),
         }
     }
 
@@ -157,10 +143,5 @@ impl<V: Value> Value for Marked<V> {
 }
 
 fn meet(a: &[bool; 64], b: &[bool; 64]) -> bool {
-    for i in 0..64usize {
-        if a[i] && b[i] {
-            return true;
-        }
-    }
-    false
+    a.iter().zip(b.iter()).any(|(one, other)| *one && *other)
 }
