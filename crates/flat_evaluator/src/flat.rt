@@ -41,6 +41,7 @@ pub struct Flat {
     // In the order of the state lists.
     pub cells: Vec<Cell>,
     // For each wire the gates that read it.
+    // Stays: a wire and a gate have no names but their numbers, which are the places of the two lists.
     pub readers: Vec<Vec<usize>>,
     pub places: usize,
     pub depth: usize,

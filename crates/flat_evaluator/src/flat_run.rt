@@ -18,6 +18,7 @@ pub struct FlatRun<V> {
 
 impl<V: Value> FlatRun<V> {
     // A cold start is handed the values of its cells, a step its inputs, and a set its value.
+    // Stays: callers rely on the signature, and two runs of one caller share the heap and the board that it hands over.
     pub fn call(
         &mut self,
         heap: Global,
@@ -106,14 +107,14 @@ impl<V: Value> FlatRun<V> {
     }
 
     fn put_cells(&mut self, handed: &[V]) {
-        for (old, new) in self.cells.iter_mut().zip(handed.iter()) {
-            *old = *new;
+        if let Some(cells) = self.cells.as_mut_slice().get_mut(..handed.len()) {
+            cells.copy_from_slice(handed);
         }
     }
 
     fn lower_cells(&mut self, count: usize) {
-        for value in self.cells.iter_mut().take(count) {
-            *value = V::of_bit(false);
+        if let Some(cells) = self.cells.as_mut_slice().get_mut(..count) {
+            cells.fill_with(|| V::of_bit(false));
         }
     }
 }

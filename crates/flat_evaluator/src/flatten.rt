@@ -6,7 +6,7 @@ use crate::fault::Fault;
 use crate::file::{Module, Part, Pins};
 use crate::flat::{Cell, Flat, Gate, readers_of};
 use crate::function::Function;
-use crate::joints::Joints;
+use crate::joints::{Joints, Names};
 use std::alloc::Global;
 
 // More places than any board has.
@@ -139,9 +139,22 @@ impl Layout {
 
     // Each wire has to be driven exactly once.
     fn finish(self, top: Laid) -> Result<Flat, Fault> {
+        let heap = self.heap;
+        let names = self.joints.names(heap)?;
+        let flat = self.named(top, &names)?;
+        let drivers = flat.drivers(heap, names.len())?;
+        if names.once_each(drivers.as_slice()) {
+            Ok(flat)
+        } else {
+            Err(Fault::Drivers)
+        }
+    }
+
+    // The flat board, with each wire by the name of all that it is joined to.
+    fn named(self, top: Laid, names: &Names) -> Result<Flat, Fault> {
         let Layout {
             heap,
-            joints,
+            joints: _,
             mut gates,
             places,
             depth,
@@ -151,16 +164,15 @@ impl Layout {
             mut inputs,
             mut outputs,
         } = pins;
-        let names = joints.names(heap)?;
         names.rename(inputs.as_mut_slice());
         names.rename(outputs.as_mut_slice());
         for gate in gates.iter_mut() {
-            gate.rename(&names);
+            gate.rename(names);
         }
         for cell in cells.iter_mut() {
-            cell.rename(&names);
+            cell.rename(names);
         }
-        let flat = Flat {
+        Ok(Flat {
             inputs,
             outputs,
             readers: readers_of(heap, gates.as_slice(), names.len())?,
@@ -168,13 +180,7 @@ impl Layout {
             cells,
             places,
             depth,
-        };
-        let drivers = flat.drivers(heap, names.len())?;
-        if names.once_each(drivers.as_slice()) {
-            Ok(flat)
-        } else {
-            Err(Fault::Drivers)
-        }
+        })
     }
 }
 
