@@ -3,65 +3,61 @@ use crate::fault::Fault;
 
 #[derive(Clone, Copy, PartialEq, Eq, Debug)]
 pub enum Function {
-    Low = 0,
-    High = 1,
-    Buf = 2,
-    Not = 3,
-    And = 4,
-    Or = 5,
-    Xor = 6,
-    Nand = 7,
-    Nor = 8,
-    Xnor = 9,
-    Pick = 10,
+    Low,
+    High,
+    Buf,
+    Not,
+    And,
+    Or,
+    Xor,
+    Nand,
+    Nor,
+    Xnor,
+    Pick,
 }
 
-const FUNCTIONS: [Function; 11] = [
-    Function::Low,
-    Function::High,
-    Function::Buf,
-    Function::Not,
-    Function::And,
-    Function::Or,
-    Function::Xor,
-    Function::Nand,
-    Function::Nor,
-    Function::Xnor,
-    Function::Pick,
-];
-
-// For each function what it gives of the inputs 000, 001, 010, 011, 100, 101, 110 and 111, the first input first.
-const TRUTH: [[bool; 8]; 11] = [
-    [false, false, false, false, false, false, false, false],
-    [true, true, true, true, true, true, true, true],
-    [false, false, false, false, true, true, true, true],
-    [true, true, true, true, false, false, false, false],
-    [false, false, false, false, false, false, true, true],
-    [false, false, true, true, true, true, true, true],
-    [false, false, true, true, true, true, false, false],
-    [true, true, true, true, true, true, false, false],
-    [true, true, false, false, false, false, false, false],
-    [true, true, false, false, false, false, true, true],
-    [false, true, false, true, false, false, true, true],
-];
-
-impl Function {
-    // What it gives of three inputs; one of fewer inputs leaves the last ones aside.
-    pub fn truth(self, a: bool, b: bool, c: bool) -> bool {
-        let column = 4 * usize::from(a) + 2 * usize::from(b) + usize::from(c);
-        TRUTH[self as usize][column]
-    }
-}
-
-// The function that a reference of a board file stands for.
+// By the references of a board file.
 impl TryFrom<u16> for Function {
     type Error = Fault;
 
     fn try_from(reference: u16) -> Result<Function, Fault> {
-        FUNCTIONS
-            .iter()
-            .copied()
-            .find(|function| *function as u16 == reference)
-            .ok_or(Fault::File)
+        match reference {
+            0 => Ok(Function::Low),
+            1 => Ok(Function::High),
+            2 => Ok(Function::Buf),
+            3 => Ok(Function::Not),
+            4 => Ok(Function::And),
+            5 => Ok(Function::Or),
+            6 => Ok(Function::Xor),
+            7 => Ok(Function::Nand),
+            8 => Ok(Function::Nor),
+            9 => Ok(Function::Xnor),
+            10 => Ok(Function::Pick),
+            _ => Err(Fault::File),
+        }
+    }
+}
+
+impl Function {
+    // What it gives of three inputs; one of fewer inputs leaves the last ones aside.
+    pub fn truth(self, a: bool, b: bool, c: bool) -> bool {
+        self.row()[4 * usize::from(a) + 2 * usize::from(b) + usize::from(c)]
+    }
+
+    // What it gives of the inputs 000, 001, 010, 011, 100, 101, 110 and 111, the first input first.
+    fn row(self) -> [bool; 8] {
+        match self {
+            Function::Low => [false, false, false, false, false, false, false, false],
+            Function::High => [true, true, true, true, true, true, true, true],
+            Function::Buf => [false, false, false, false, true, true, true, true],
+            Function::Not => [true, true, true, true, false, false, false, false],
+            Function::And => [false, false, false, false, false, false, true, true],
+            Function::Or => [false, false, true, true, true, true, true, true],
+            Function::Xor => [false, false, true, true, true, true, false, false],
+            Function::Nand => [true, true, true, true, true, true, false, false],
+            Function::Nor => [true, true, false, false, false, false, false, false],
+            Function::Xnor => [true, true, false, false, false, false, true, true],
+            Function::Pick => [false, true, false, true, false, false, true, true],
+        }
     }
 }
