@@ -1,4 +1,6 @@
 // Numbers by chance: the same ones from the same seed.
+ghost use Rattle.std.specs.Prelude.{◌<◌, ◌≤◌, length, IsSome};
+
 #[derive(Drop)]
 pub struct Dice {
     state: u64,
@@ -18,17 +20,37 @@ impl Dice {
     }
 
     // A number below the limit, or 0 where the limit is 0.
-    pub fn below(&mut self, limit: usize) -> usize {
+    pub fn below(&mut self, limit: usize) -> usize
+        ensures { 0 < limit → result < limit }
+    {
         let number = self.word() as usize;
         if limit == 0 { 0 } else { number % limit }
     }
 
-    pub fn between(&mut self, least: usize, most: usize) -> usize {
+    pub fn between(&mut self, least: usize, most: usize) -> usize
+        ensures { least ≤ most → result ≤ most }
+    {
         let span = most.saturating_sub(least).saturating_add(1);
         least.saturating_add(self.below(span))
     }
 
     pub fn chance(&mut self, percent: usize) -> bool {
         self.below(100) < percent
+    }
+
+    // Any of the items, unless there are none.
+    pub fn one_of<'a, T>(&mut self, items: &'a [T]) -> Option<&'a T>
+        ensures { 0 < length items.now → IsSome result }
+    {
+        items.get(self.below(items.len()))
+    }
+
+    // Puts the items into any order.
+    pub fn shuffle<T>(&mut self, items: &mut [T]) {
+        let last = items.len().saturating_sub(1);
+        for place in 0..items.len() {
+            let other = self.between(place, last);
+            items.swap(place, other);
+        }
     }
 }

@@ -3,5 +3,8 @@
 
 pub mod dice;
 pub mod generator;
+mod made;
 mod maker;
+mod piece;
+mod shape;
 mod writer;

@@ -1,23 +1,20 @@
 // One module by chance, such that the judge accepts it.
 use crate::dice::Dice;
-use crate::writer::{push_module, push_use};
+use crate::piece::{InputSet, Piece};
+use crate::writer::{ModuleRecord, OccurrenceRecord};
 use std::alloc::{AllocError, Global};
 
-const MOST_PINS: usize = 16;
-
-const MOST_USES: usize = 64;
+const MOST_OCCURRENCES: usize = 64;
 
 const MOST_WIRES: usize = 128;
 
 const MOST_CELLS: usize = 4096;
 
-pub const CELL: usize = 11;
-
 // A module's own record with all outputs and no state list.
 const MODULE_BYTES: usize = 25;
 
-// The inputs of the references 0 to 11; each has one output.
-const PRIMITIVE_INPUTS: [usize; 12] = [0, 0, 1, 1, 2, 2, 2, 2, 2, 2, 3, 1];
+// The reference of the first module.
+const FIRST_MODULE: usize = 256;
 
 // How many bytes a module's records may have, how many places may lie in it, and how deep it may be.
 #[derive(Clone, Copy)]
@@ -27,49 +24,30 @@ pub struct Limits {
     pub depth: usize,
 }
 
-// What can stand at an occurrence, with what its user has to know of it. A set of inputs has a bit for each, the lowest for
-// the first.
-#[derive(Clone, Copy)]
-pub struct Piece {
-    reference: usize,
-    inputs: usize,
-    outputs: usize,
-    through: u16,
-    cells: usize,
-    places: usize,
-    depth: usize,
+// A finished module: its records, and the piece that it is.
+#[derive(Drop)]
+pub struct Module {
+    pub records: Vec<u8>,
+    pub piece: Piece,
 }
 
-pub fn primitive(reference: usize) -> Piece {
-    let is_cell = reference == CELL;
-    Piece {
-        reference,
-        inputs: PRIMITIVE_INPUTS.get(reference).copied().unwrap_or(0),
-        outputs: 1,
-        through: if is_cell { 0 } else { u16::MAX },
-        cells: usize::from(is_cell),
-        places: 0,
-        depth: 0,
-    }
-}
-
-// An occurrence: where the wires of its inputs begin among those chosen, and its outputs among the wires.
-#[derive(Clone, Copy)]
-struct Chosen {
+// A piece with the wires of its inputs, as far as these are through, and of its outputs.
+#[derive(Drop)]
+struct Occurrence {
     piece: Piece,
-    first_input: usize,
-    first_output: usize,
+    inputs: Vec<Option<usize>>,
+    outputs: Vec<usize>,
 }
 
 // Wires have numbers in the order in which they are driven.
 #[derive(Drop)]
 pub struct Maker {
+    heap: Global,
+    number: usize,
     inputs: usize,
     // For each wire, the set of the inputs that reach it.
-    reach: Vec<u16>,
-    uses: Vec<Chosen>,
-    // For each input of the occurrences its wire, if it is through.
-    wires: Vec<Option<usize>>,
+    reach: Vec<InputSet>,
+    occurrences: Vec<Occurrence>,
     cells: usize,
     places: usize,
     depth: usize,
@@ -79,18 +57,22 @@ pub struct Maker {
 }
 
 impl Maker {
-    pub fn new(heap: Global, inputs: usize, limits: Limits) -> Result<Maker, AllocError> {
-        let mut reach = Vec::new(heap);
-        let mut itself: u16 = 1;
-        for _ in 0..inputs.min(MOST_PINS) {
-            reach.push(itself)?;
-            itself = itself.wrapping_mul(2);
-        }
+    pub fn new(
+        heap: Global,
+        number: usize,
+        inputs: usize,
+        limits: Limits,
+    ) -> Result<Maker, AllocError> {
+        let reach = (0..u16::BITS)
+            .take(inputs)
+            .map(InputSet::only)
+            .collect::<Vec<InputSet>>(heap)?;
         Ok(Maker {
+            heap,
+            number,
             inputs: reach.len(),
             reach,
-            uses: Vec::new(heap),
-            wires: Vec::new(heap),
+            occurrences: Vec::new(heap),
             cells: 0,
             places: 0,
             depth: 1,
@@ -102,14 +84,14 @@ impl Maker {
     fn fits(&self, piece: &Piece) -> bool {
         let wired = !self.reach.is_empty()
             || piece.inputs == 0
-            || (piece.outputs > 0 && piece.through == 0);
+            || (piece.outputs > 0 && piece.through == InputSet::NONE);
         wired
-            && self.uses.len() < MOST_USES
+            && self.occurrences.len() < MOST_OCCURRENCES
             && self.reach.len().saturating_add(piece.outputs) <= MOST_WIRES
             && piece.depth < self.limits.depth
             && self.cells.saturating_add(piece.cells) <= MOST_CELLS
             && self.places.saturating_add(piece.places) < self.limits.places
-            && self.bytes.saturating_add(bytes_of(piece)) <= self.limits.bytes
+            && self.bytes.saturating_add(piece.bytes()) <= self.limits.bytes
     }
 
     // A driven wire, rather one of the latest.
@@ -122,8 +104,8 @@ impl Maker {
         }
     }
 
-    fn reach_of(&self, wire: usize) -> u16 {
-        self.reach.get(wire).copied().unwrap_or(0)
+    fn reach_of(&self, wire: usize) -> InputSet {
+        self.reach.get(wire).copied().unwrap_or(InputSet::NONE)
     }
 
     // Adds an occurrence; whether it fitted.
@@ -131,143 +113,150 @@ impl Maker {
         if !self.fits(piece) {
             return Ok(false);
         }
-        self.uses.push(Chosen {
+        let inputs = self.choose_inputs(dice, piece)?;
+        let reaching = inputs
+            .iter()
+            .flatten()
+            .fold(InputSet::NONE, |set, wire| set.with(self.reach_of(*wire)));
+        let outputs = self.drive(piece.outputs, reaching)?;
+        self.occurrences.push(Occurrence {
             piece: *piece,
-            first_input: self.wires.len(),
-            first_output: self.reach.len(),
+            inputs,
+            outputs,
         })?;
-        let reaching = self.choose_wires(dice, piece)?;
-        for _ in 0..piece.outputs {
-            self.reach.push(reaching)?;
-        }
         self.cells = self.cells.saturating_add(piece.cells);
         self.places = self.places.saturating_add(piece.places).saturating_add(1);
         self.depth = self.depth.max(piece.depth.saturating_add(1));
-        self.bytes = self.bytes.saturating_add(bytes_of(piece));
+        self.bytes = self.bytes.saturating_add(piece.bytes());
         Ok(true)
     }
 
-    // Gives each through input a wire, and answers the set of the inputs that reach these.
-    fn choose_wires(&mut self, dice: &mut Dice, piece: &Piece) -> Result<u16, AllocError> {
-        let mut reaching = 0;
-        let mut through = piece.through;
-        for _ in 0..piece.inputs {
-            let mut wire = None;
-            if through % 2 == 1 {
-                let some = self.some_wire(dice);
-                reaching |= self.reach_of(some);
-                wire = Some(some);
-            }
-            self.wires.push(wire)?;
-            through /= 2;
+    // Adds as many occurrences of a piece as fit, and no more than so many.
+    pub fn add_times(
+        &mut self,
+        dice: &mut Dice,
+        piece: &Piece,
+        times: usize,
+    ) -> Result<(), AllocError> {
+        for _ in 0..times {
+            self.add(dice, piece)?;
         }
-        Ok(reaching)
+        Ok(())
     }
 
-    // The module's records behind the bytes, and the piece that it is under its number.
-    pub fn finish(
+    // Gives each through input a wire.
+    fn choose_inputs(
         &self,
-        heap: Global,
         dice: &mut Dice,
-        number: usize,
-        output_count: usize,
-        bytes: &mut Vec<u8>,
-    ) -> Result<Piece, AllocError> {
-        let numbers = self.wire_numbers(heap, dice)?;
-        let mut outputs = Vec::new(heap);
-        let mut through = 0;
-        if !self.reach.is_empty() {
-            for _ in 0..output_count {
-                let wire = self.some_wire(dice);
-                outputs.push(number_of(&numbers, wire))?;
-                through |= self.reach_of(wire);
-            }
-        }
-        let states = self.state_list(heap, dice)?;
-        let counts = [
-            self.inputs,
-            outputs.len(),
-            numbers.len(),
-            self.uses.len(),
-            states.len(),
-        ];
-        push_module(heap, bytes, &counts, &outputs, &states)?;
-        for chosen in self.uses.iter() {
-            self.push_chosen(heap, dice, chosen, &numbers, bytes)?;
-        }
-        Ok(Piece {
-            reference: number.saturating_add(256),
+        piece: &Piece,
+    ) -> Result<Vec<Option<usize>>, AllocError> {
+        (0..u16::BITS)
+            .take(piece.inputs)
+            .map(|input| piece.through.has(input).then(|| self.some_wire(dice)))
+            .collect(self.heap)
+    }
+
+    // So many new wires, which the inputs reach.
+    fn drive(&mut self, count: usize, reaching: InputSet) -> Result<Vec<usize>, AllocError> {
+        let first = self.reach.len();
+        self.reach.resize(first.saturating_add(count), reaching)?;
+        (first..self.reach.len()).collect(self.heap)
+    }
+
+    // The module with so many outputs; one with no wires has none.
+    pub fn finish(&self, dice: &mut Dice, outputs: usize) -> Result<Module, AllocError> {
+        let numbers = self.wire_numbers(dice)?;
+        let wires = self.choose_outputs(dice, outputs)?;
+        let states = self.state_list(dice)?;
+        let mut records = Vec::new(self.heap);
+        let own = ModuleRecord {
             inputs: self.inputs,
-            outputs: outputs.len(),
-            through,
-            cells: self.cells,
-            places: self.places,
-            depth: self.depth,
+            outputs: numbers_of(self.heap, numbers.as_slice(), wires.as_slice())?,
+            wires: numbers.len(),
+            occurrences: self.occurrences.len(),
+            states,
+        };
+        own.push_to(&mut records)?;
+        for occurrence in self.occurrences.iter() {
+            let record = occurrence.record(self.heap, dice, numbers.as_slice())?;
+            record.push_to(&mut records)?;
+        }
+        Ok(Module {
+            records,
+            piece: self.piece(wires.as_slice()),
         })
     }
 
     // The wires' numbers in the file: the inputs in their order, and then the others in any.
-    fn wire_numbers(&self, heap: Global, dice: &mut Dice) -> Result<Vec<usize>, AllocError> {
-        let mut numbers = (0..self.reach.len()).collect(heap)?;
-        shuffle(dice, &mut numbers, self.inputs);
+    fn wire_numbers(&self, dice: &mut Dice) -> Result<Vec<u8>, AllocError> {
+        let mut numbers = (0..u8::MAX)
+            .take(self.reach.len())
+            .collect::<Vec<u8>>(self.heap)?;
+        if let Some(driven) = numbers.as_mut_slice().get_mut(self.inputs..) {
+            dice.shuffle(driven);
+        }
         Ok(numbers)
     }
 
-    fn state_list(&self, heap: Global, dice: &mut Dice) -> Result<Vec<usize>, AllocError> {
-        let mut states = Vec::new(heap);
-        for (number, chosen) in self.uses.iter().enumerate() {
-            if chosen.piece.cells > 0 {
-                states.push(number)?;
-            }
-        }
-        shuffle(dice, &mut states, 0);
+    fn choose_outputs(&self, dice: &mut Dice, count: usize) -> Result<Vec<usize>, AllocError> {
+        let count = if self.reach.is_empty() { 0 } else { count };
+        (0..count).map(|_| self.some_wire(dice)).collect(self.heap)
+    }
+
+    // The occurrences that hold cells, in any order.
+    fn state_list(&self, dice: &mut Dice) -> Result<Vec<u8>, AllocError> {
+        let mut states = (0..u8::MAX)
+            .zip(self.occurrences.iter())
+            .filter(|(_, occurrence)| occurrence.piece.cells > 0)
+            .map(|(number, _)| number)
+            .collect::<Vec<u8>>(self.heap)?;
+        dice.shuffle(states.as_mut_slice());
         Ok(states)
     }
 
-    // An occurrence's record; an input that is not through gets any wire.
-    fn push_chosen(
+    // The module as its users see it.
+    fn piece(&self, outputs: &[usize]) -> Piece {
+        Piece {
+            reference: self.number.saturating_add(FIRST_MODULE),
+            inputs: self.inputs,
+            outputs: outputs.len(),
+            through: outputs
+                .iter()
+                .fold(InputSet::NONE, |set, wire| set.with(self.reach_of(*wire))),
+            cells: self.cells,
+            places: self.places,
+            depth: self.depth,
+        }
+    }
+}
+
+impl Occurrence {
+    // Its record; an input that is not through gets any wire.
+    fn record(
         &self,
         heap: Global,
         dice: &mut Dice,
-        chosen: &Chosen,
-        numbers: &Vec<usize>,
-        bytes: &mut Vec<u8>,
-    ) -> Result<(), AllocError> {
-        let piece = chosen.piece;
-        let mut inputs = Vec::new(heap);
-        for wire in self
-            .wires
-            .iter()
-            .skip(chosen.first_input)
-            .take(piece.inputs)
-        {
+        numbers: &[u8],
+    ) -> Result<OccurrenceRecord, AllocError> {
+        let inputs = self.inputs.iter().map(|wire| {
             let any = dice.below(numbers.len());
-            inputs.push(number_of(numbers, wire.unwrap_or(any)))?;
-        }
-        let mut outputs = Vec::new(heap);
-        for number in numbers.iter().skip(chosen.first_output).take(piece.outputs) {
-            outputs.push(*number)?;
-        }
-        push_use(heap, bytes, piece.reference, &inputs, &outputs)
+            number_of(numbers, wire.unwrap_or(any))
+        });
+        Ok(OccurrenceRecord {
+            reference: self.piece.reference,
+            inputs: inputs.collect(heap)?,
+            outputs: numbers_of(heap, numbers, self.outputs.as_slice())?,
+        })
     }
 }
 
-// The most bytes that an occurrence takes: its record, and its entry of the state list.
-fn bytes_of(piece: &Piece) -> usize {
-    piece.inputs.saturating_add(piece.outputs).saturating_add(9)
-}
-
-fn number_of(numbers: &Vec<usize>, wire: usize) -> usize {
+fn number_of(numbers: &[u8], wire: usize) -> u8 {
     numbers.get(wire).copied().unwrap_or(0)
 }
 
-// Puts the numbers from a place on into any order.
-fn shuffle(dice: &mut Dice, numbers: &mut Vec<usize>, from: usize) {
-    let last = numbers.len().saturating_sub(1);
-    for place in from..numbers.len() {
-        let other = dice.between(place, last);
-        if place < numbers.len() && other < numbers.len() {
-            numbers.swap(place, other);
-        }
-    }
+fn numbers_of(heap: Global, numbers: &[u8], wires: &[usize]) -> Result<Vec<u8>, AllocError> {
+    wires
+        .iter()
+        .map(|wire| number_of(numbers, *wire))
+        .collect(heap)
 }

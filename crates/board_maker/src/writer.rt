@@ -1,57 +1,80 @@
 // The records of a board file.
-use std::alloc::{AllocError, Global};
+use std::alloc::AllocError;
+
+#[derive(Clone, Copy)]
+enum RecordKind {
+    Board = 1,
+    Module = 2,
+    Occurrence = 3,
+}
 
 pub fn push_board(bytes: &mut Vec<u8>, modules: usize) -> Result<(), AllocError> {
-    push_pair(bytes, 2)?;
-    push_pair(bytes, 1)?;
-    push_pair(bytes, modules)
+    push_record(bytes, RecordKind::Board, &[&two_bytes(modules)])
 }
 
-// The counts are those of inputs, outputs, wires, occurrences and entries of the state list.
-pub fn push_module(
-    heap: Global,
-    bytes: &mut Vec<u8>,
-    counts: &[usize; 5],
-    outputs: &Vec<usize>,
-    states: &Vec<usize>,
-) -> Result<(), AllocError> {
-    let mut body = Vec::new(heap);
-    push_list(&mut body, counts)?;
-    push_list(&mut body, outputs.as_slice())?;
-    push_list(&mut body, states.as_slice())?;
-    push_record(bytes, 2, &body)
+// A module's own record.
+#[derive(Drop)]
+pub struct ModuleRecord {
+    pub inputs: usize,
+    pub outputs: Vec<u8>,
+    pub wires: usize,
+    pub occurrences: usize,
+    pub states: Vec<u8>,
 }
 
-pub fn push_use(
-    heap: Global,
-    bytes: &mut Vec<u8>,
-    reference: usize,
-    inputs: &Vec<usize>,
-    outputs: &Vec<usize>,
-) -> Result<(), AllocError> {
-    let mut body = Vec::new(heap);
-    push_pair(&mut body, reference)?;
-    push_list(&mut body, &[inputs.len(), outputs.len()])?;
-    push_list(&mut body, inputs.as_slice())?;
-    push_list(&mut body, outputs.as_slice())?;
-    push_record(bytes, 3, &body)
+impl ModuleRecord {
+    pub fn push_to(&self, bytes: &mut Vec<u8>) -> Result<(), AllocError> {
+        let counts = [
+            byte(self.inputs),
+            byte(self.outputs.len()),
+            byte(self.wires),
+            byte(self.occurrences),
+            byte(self.states.len()),
+        ];
+        push_record(
+            bytes,
+            RecordKind::Module,
+            &[&counts, self.outputs.as_slice(), self.states.as_slice()],
+        )
+    }
 }
 
-fn push_record(bytes: &mut Vec<u8>, kind: usize, body: &Vec<u8>) -> Result<(), AllocError> {
-    push_pair(bytes, body.len())?;
-    push_pair(bytes, kind)?;
+#[derive(Drop)]
+pub struct OccurrenceRecord {
+    pub reference: usize,
+    pub inputs: Vec<u8>,
+    pub outputs: Vec<u8>,
+}
+
+impl OccurrenceRecord {
+    pub fn push_to(&self, bytes: &mut Vec<u8>) -> Result<(), AllocError> {
+        let counts = [byte(self.inputs.len()), byte(self.outputs.len())];
+        push_record(
+            bytes,
+            RecordKind::Occurrence,
+            &[
+                &two_bytes(self.reference),
+                &counts,
+                self.inputs.as_slice(),
+                self.outputs.as_slice(),
+            ],
+        )
+    }
+}
+
+// A length, a kind, and a body of so many bytes.
+fn push_record(bytes: &mut Vec<u8>, kind: RecordKind, parts: &[&[u8]]) -> Result<(), AllocError> {
+    let body = parts.concat(*bytes.allocator())?;
+    bytes.extend_from_slice(&two_bytes(body.len()))?;
+    bytes.extend_from_slice(&two_bytes(kind as usize))?;
     bytes.extend_from_slice(body.as_slice())
 }
 
-// Two bytes, the low one first.
-fn push_pair(bytes: &mut Vec<u8>, number: usize) -> Result<(), AllocError> {
-    push_list(bytes, &[number, number / 256])
+// The numbers of a board within its limits fit.
+fn byte(number: usize) -> u8 {
+    u8::try_from(number).unwrap_or(u8::MAX)
 }
 
-// The lowest byte of each number.
-fn push_list(bytes: &mut Vec<u8>, numbers: &[usize]) -> Result<(), AllocError> {
-    for number in numbers {
-        bytes.push((*number & 0xff) as u8)?;
-    }
-    Ok(())
+fn two_bytes(number: usize) -> [u8; 2] {
+    u16::try_from(number).unwrap_or(u16::MAX).to_le_bytes()
 }
