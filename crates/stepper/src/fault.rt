@@ -1,25 +1,26 @@
 // Why the program gives up.
-use std::error::Error;
-use std::fmt;
+use board::Refusal;
+use run::CallRefusal;
+use thiserror::Error;
 
-#[derive(Debug, Drop)]
+#[derive(Debug, Drop, Error)]
 pub enum Fault {
+    #[error("usage: stepper BOARD KIND STEPS [time], with the kind b, t or r")]
     Usage,
+    #[error("the tape of a run is too long")]
     TooLong,
+    #[error("refused by {0}")]
     Refused(u8),
 }
 
-impl fmt::Display for Fault {
-    fn fmt<W: fmt::Write>(&self, f: &mut fmt::Formatter<W>) -> fmt::Result {
-        match self {
-            Fault::Usage => write!(
-                f,
-                "usage: stepper BOARD KIND STEPS [time], with the kind b, t or r"
-            ),
-            Fault::TooLong => write!(f, "the tape of a run is too long"),
-            Fault::Refused(number) => write!(f, "refused by {number}"),
-        }
+impl From<Refusal> for Fault {
+    fn from(refusal: Refusal) -> Fault {
+        Fault::Refused(refusal.number())
     }
 }
 
-impl Error for Fault {}
+impl From<CallRefusal> for Fault {
+    fn from(refusal: CallRefusal) -> Fault {
+        Fault::Refused(refusal.number())
+    }
+}

@@ -7,6 +7,7 @@
 #![tactic(auto)]
 
 mod fault;
+mod kind;
 mod memory;
 mod runs;
 mod sample;
@@ -14,6 +15,7 @@ mod stream;
 mod totals;
 
 use crate::fault::Fault;
+use crate::kind::Kind;
 use crate::runs::run_all;
 use crate::sample::Sample;
 use board::{Board, judge, seal};
@@ -31,15 +33,9 @@ struct Words {
 fn read_words(rt: &HostRuntime) -> anyhow::Result<Words> {
     let mut given = env::args(rt)?;
     let _program = given.next();
-    let Some(path) = given.next() else {
-        return Err(Fault::Usage.into());
-    };
-    let Some(kind) = given.next() else {
-        return Err(Fault::Usage.into());
-    };
-    let Some(steps) = given.next() else {
-        return Err(Fault::Usage.into());
-    };
+    let path = given.next().ok_or(Fault::Usage)?;
+    let kind = given.next().ok_or(Fault::Usage)?;
+    let steps = given.next().ok_or(Fault::Usage)?;
     Ok(Words {
         path,
         kind,
@@ -61,21 +57,18 @@ fn show<K: Sample>(rt: &HostRuntime, board: &Board<'_>, words: &Words) -> anyhow
 }
 
 fn show_kind(rt: &HostRuntime, board: &Board<'_>, words: &Words) -> anyhow::Result<()> {
-    match words.kind.as_str() {
-        "b" => show::<bool>(rt, board, words),
-        "t" => show::<Level>(rt, board, words),
-        "r" => show::<u64>(rt, board, words),
-        _ => Err(Fault::Usage.into()),
+    match words.kind.as_str().parse::<Kind>()? {
+        Kind::Bits => show::<bool>(rt, board, words),
+        Kind::Levels => show::<Level>(rt, board, words),
+        Kind::Rows => show::<u64>(rt, board, words),
     }
 }
 
 fn run(rt: &HostRuntime) -> anyhow::Result<()> {
     let words = read_words(rt)?;
     let file = fs::read(rt, words.path.as_str())?;
-    match judge(file.as_slice()) {
-        Ok(judged) => show_kind(rt, &seal(judged), &words),
-        Err(refusal) => Err(Fault::Refused(refusal.number()).into()),
-    }
+    let judged = judge(file.as_slice()).map_err(Fault::from)?;
+    show_kind(rt, &seal(judged), &words)
 }
 
 fn main(rt: HostRuntime) -> anyhow::Result<()> {

@@ -8,64 +8,60 @@ use std::alloc::{AllocError, Global};
 
 #[derive(Drop)]
 pub struct Memory<K> {
-    pub inputs: Vec<K>,
+    // How many inputs a step has.
+    width: usize,
+    inputs: Vec<K>,
     pub cells: Vec<K>,
     pub tape: Vec<K>,
     pub counts: Vec<u32>,
-    pub work: Vec<K>,
-    pub levels: Vec<Level>,
+    work: Vec<K>,
+    levels: Vec<Level>,
 }
 
 fn draw<K: Sample>(heap: Global, stream: &mut Stream, count: usize) -> Result<Vec<K>, AllocError> {
+    // Stays: no proof is made of `map(K::drawn)`, a function of which only the result names `K`.
     let mut drawn = Vec::new(heap);
-    for _ in 0..count {
-        drawn.push(K::drawn(stream.next()))?;
+    for word in stream.take(count) {
+        drawn.push(K::drawn(word))?;
     }
     Ok(drawn)
 }
 
-// For so many steps, on the inputs that come next in the stream.
-pub fn lend<K: Sample>(
-    heap: Global,
-    top: Figures,
-    stream: &mut Stream,
-    steps: usize,
-) -> anyhow::Result<Memory<K>> {
-    let Some(values) = steps.checked_mul(top.inputs) else {
-        return Err(Fault::TooLong.into());
-    };
-    let Some(room) = steps.checked_mul(top.outputs) else {
-        return Err(Fault::TooLong.into());
-    };
-    Ok(Memory {
-        inputs: draw::<K>(heap, stream, values)?,
-        cells: vec![in heap; K::low(); top.cells]?,
-        tape: vec![in heap; K::low(); room]?,
-        counts: vec![in heap; 0; steps]?,
-        work: vec![in heap; K::low(); WORKING_VALUES]?,
-        levels: vec![in heap; Level::new(); LEVEL_RECORDS]?,
-    })
-}
-
-// As many steps as there are counts, each on the next inputs.
-pub fn step_all<K: Sample>(
-    run: &mut Run<'_, '_>,
-    width: usize,
-    memory: &mut Memory<K>,
-) -> Result<(), Fault> {
-    let mut left = memory.inputs.as_slice();
-    for count in memory.counts.iter_mut() {
-        let Some((given, later)) = left.split_at_checked(width) else {
-            return Err(Fault::TooLong);
-        };
-        left = later;
-        let cells = memory.cells.as_mut_slice();
-        let tape = memory.tape.as_mut_slice();
-        let work = memory.work.as_mut_slice();
-        match run.step(given, cells, tape, work, memory.levels.as_mut_slice()) {
-            Ok(gates) => *count = gates,
-            Err(refusal) => return Err(Fault::Refused(refusal.number())),
-        }
+impl<K: Sample> Memory<K> {
+    // For so many steps, on the inputs that come next in the stream.
+    pub fn lend(
+        heap: Global,
+        top: Figures,
+        stream: &mut Stream,
+        steps: usize,
+    ) -> anyhow::Result<Memory<K>> {
+        let values = steps.checked_mul(top.inputs).ok_or(Fault::TooLong)?;
+        let room = steps.checked_mul(top.outputs).ok_or(Fault::TooLong)?;
+        Ok(Memory {
+            width: top.inputs,
+            inputs: draw::<K>(heap, stream, values)?,
+            cells: vec![in heap; K::low(); top.cells]?,
+            tape: vec![in heap; K::low(); room]?,
+            counts: vec![in heap; 0; steps]?,
+            work: vec![in heap; K::low(); WORKING_VALUES]?,
+            levels: vec![in heap; Level::new(); LEVEL_RECORDS]?,
+        })
     }
-    Ok(())
+
+    // As many steps as there are counts, each on the next inputs.
+    pub fn step_all(&mut self, run: &mut Run<'_, '_>) -> Result<(), Fault> {
+        let mut left = self.inputs.as_slice();
+        for count in self.counts.iter_mut() {
+            let (given, later) = left.split_at_checked(self.width).ok_or(Fault::TooLong)?;
+            left = later;
+            *count = run.step(
+                given,
+                self.cells.as_mut_slice(),
+                self.tape.as_mut_slice(),
+                self.work.as_mut_slice(),
+                self.levels.as_mut_slice(),
+            )?;
+        }
+        Ok(())
+    }
 }

@@ -1,6 +1,6 @@
 // Runs of a board, each from low cells.
 use crate::fault::Fault;
-use crate::memory::{lend, step_all};
+use crate::memory::Memory;
 use crate::sample::Sample;
 use crate::stream::Stream;
 use crate::totals::Totals;
@@ -11,28 +11,25 @@ use std::time::Instant;
 // After so many steps a new run begins.
 const RUN: usize = 4096;
 
-fn run_once<K: Sample>(
-    rt: &HostRuntime,
-    board: &Board<'_>,
-    stream: &mut Stream,
-    steps: usize,
-    totals: &mut Totals,
-) -> anyhow::Result<()> {
-    let top = board.figures();
-    let mut memory = lend::<K>(rt.alloc(), top, stream, steps)?;
-    let mut run = match power(board, memory.cells.as_mut_slice()) {
-        Ok(run) => run,
-        Err(refusal) => return Err(Fault::Refused(refusal.number()).into()),
-    };
-    let start = Instant::now(rt)?;
-    step_all(&mut run, top.inputs, &mut memory)?;
-    let time = start.elapsed(rt)?;
-    totals.take_run(
-        memory.tape.as_slice(),
-        memory.counts.as_slice(),
-        time.as_nanos(),
-    );
-    Ok(())
+// One stream of inputs for all runs, and what they gave.
+#[derive(Drop)]
+struct Runs<'b, 'f> {
+    board: &'b Board<'f>,
+    stream: Stream,
+    totals: Totals,
+}
+
+impl Runs<'_, '_> {
+    fn run_once<K: Sample>(&mut self, rt: &HostRuntime, steps: usize) -> anyhow::Result<()> {
+        let top = self.board.figures();
+        let mut memory = Memory::<K>::lend(rt.alloc(), top, &mut self.stream, steps)?;
+        let mut run = power(self.board, memory.cells.as_mut_slice()).map_err(Fault::from)?;
+        let start = Instant::now(rt)?;
+        memory.step_all(&mut run)?;
+        let time = start.elapsed(rt)?;
+        self.totals.take_run(&memory, time.as_nanos());
+        Ok(())
+    }
 }
 
 pub fn run_all<K: Sample>(
@@ -40,11 +37,14 @@ pub fn run_all<K: Sample>(
     board: &Board<'_>,
     steps: usize,
 ) -> anyhow::Result<Totals> {
-    let mut stream = Stream::new();
-    let mut totals = Totals::new();
+    let mut runs = Runs {
+        board,
+        stream: Stream::new(),
+        totals: Totals::new(),
+    };
     for done in (0..steps).step_by(RUN) {
         let now = steps.saturating_sub(done).min(RUN);
-        run_once::<K>(rt, board, &mut stream, now, &mut totals)?;
+        runs.run_once::<K>(rt, now)?;
     }
-    Ok(totals)
+    Ok(runs.totals)
 }

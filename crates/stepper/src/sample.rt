@@ -2,7 +2,8 @@
 use signal::Signal;
 use signal::levels::Level;
 
-pub trait Sample: Signal + Clone {
+// Stays: `From` between a kind of the library and a number cannot be written here, since both are another crate's.
+pub trait Sample: Signal {
     // The input value that a word of the stream stands for.
     fn drawn(word: u64) -> Self;
 
@@ -30,11 +31,7 @@ impl Sample for Level {
     }
 
     fn code(self) -> u64 {
-        match self {
-            Level::Zero => 0,
-            Level::One => 1,
-            Level::Unknown => 2,
-        }
+        self as u64
     }
 }
 

@@ -1,4 +1,5 @@
 // What all runs gave.
+use crate::memory::Memory;
 use crate::sample::Sample;
 
 #[derive(Drop)]
@@ -22,14 +23,22 @@ impl Totals {
         self.checksum = mixed.rotate_left(29);
     }
 
-    pub fn take_run<K: Sample>(&mut self, tape: &[K], counts: &[u32], nanos: u128) {
+    fn take_tape<K: Sample>(&mut self, tape: &[K]) {
         for value in tape {
             self.take(value.code());
         }
+    }
+
+    fn take_counts(&mut self, counts: &[u32]) {
         for count in counts {
             self.take(u64::from(*count));
             self.count = self.count.wrapping_add(u64::from(*count));
         }
+    }
+
+    pub fn take_run<K: Sample>(&mut self, memory: &Memory<K>, nanos: u128) {
+        self.take_tape(memory.tape.as_slice());
+        self.take_counts(memory.counts.as_slice());
         self.nanos = self.nanos.wrapping_add(nanos);
     }
 }
