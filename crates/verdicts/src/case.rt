@@ -1,6 +1,7 @@
 // A case is a file and the verdict that is expected of it.
-use crate::reader::{Fault, Reader};
-use crate::verdict::{Figures, Verdict};
+use crate::fault::Fault;
+use crate::reader::Reader;
+use crate::verdict::{Figures, Refused, Verdict};
 use std::alloc::Global;
 
 #[derive(Drop)]
@@ -9,61 +10,93 @@ pub struct Case {
     pub file: Vec<u8>,
 }
 
-pub(crate) fn read_bases<'a>(heap: Global, bytes: &'a [u8]) -> Result<Vec<&'a [u8]>, Fault> {
-    let mut reader = Reader::new(bytes);
-    let mut bases = Vec::new(heap);
-    for _ in 0..reader.number()? {
-        let base = reader.block()?;
-        if bases.push(base).is_err() {
-            return Err(Fault::Memory);
+// The cases that are still to come, each made of a base.
+#[derive(Drop)]
+pub struct Cases<'a> {
+    heap: Global,
+    bases: Vec<&'a [u8]>,
+    count: usize,
+    reader: Reader<'a>,
+}
+
+impl<'a> Cases<'a> {
+    pub(crate) fn new(heap: Global, bases: &'a [u8], cases: &'a [u8]) -> Result<Cases<'a>, Fault> {
+        let mut reader = Reader::new(cases);
+        Ok(Cases {
+            heap,
+            bases: read_bases(heap, bases)?,
+            count: reader.number()?,
+            reader,
+        })
+    }
+
+    pub(crate) fn count(&self) -> usize {
+        self.count
+    }
+
+    // Whether nothing is behind the cases.
+    pub(crate) fn end(&self) -> Result<(), Fault> {
+        if self.reader.rest().is_empty() {
+            Ok(())
+        } else {
+            Err(Fault::GoesOn)
         }
     }
-    Ok(bases)
-}
 
-pub(crate) fn read_case(
-    heap: Global,
-    bases: &[&[u8]],
-    cases: &mut Reader<'_>,
-) -> Result<Case, Fault> {
-    let number = cases.number()?;
-    let expected = read_verdict(cases)?;
-    let Some(base) = bases.get(number) else {
-        return Err(Fault::NoSuchBase);
-    };
-    let file = rebuilt(heap, *base, cases)?;
-    Ok(Case { expected, file })
-}
-
-fn read_verdict(cases: &mut Reader<'_>) -> Result<Verdict, Fault> {
-    let number = cases.byte()?;
-    let place = cases.number()?;
-    if number > 0 {
-        return Ok(Verdict::Refused { number, place });
+    pub(crate) fn read(&mut self) -> Result<Case, Fault> {
+        let number = self.reader.number()?;
+        let expected = self.read_verdict()?;
+        let base = *self.bases.get(number).ok_or(Fault::NoSuchBase)?;
+        let file = self.rebuild(base)?;
+        Ok(Case { expected, file })
     }
-    Ok(Verdict::Accepted(Figures {
-        modules: usize::from(cases.byte()?),
-        cells: cases.number()?,
-        places: cases.number()?,
-        depth: usize::from(cases.byte()?),
-    }))
-}
 
-// The base with the edits that come next among the cases.
-fn rebuilt(heap: Global, base: &[u8], cases: &mut Reader<'_>) -> Result<Vec<u8>, Fault> {
-    let mut left = Reader::new(base);
-    let mut file = Vec::new(heap);
-    for _ in 0..cases.byte()? {
-        let copied = cases.number()?;
+    fn read_verdict(&mut self) -> Result<Verdict, Fault> {
+        let cases = &mut self.reader;
+        let number = cases.byte()?;
+        let place = cases.number()?;
+        if number > 0 {
+            return Ok(Err(Refused { number, place }));
+        }
+        Ok(Ok(Figures {
+            modules: usize::from(cases.byte()?),
+            cells: cases.number()?,
+            places: cases.number()?,
+            depth: usize::from(cases.byte()?),
+        }))
+    }
+
+    // The base with the edits that come next.
+    fn rebuild(&mut self, base: &[u8]) -> Result<Vec<u8>, Fault> {
+        let mut left = Reader::new(base);
+        let mut file = Vec::new(self.heap);
+        for _ in 0..self.reader.byte()? {
+            self.edit(&mut left, &mut file)?;
+        }
+        file.extend_from_slice(left.rest())?;
+        Ok(file)
+    }
+
+    // Some bytes are copied and some dropped, and a block is put there some times.
+    fn edit(&mut self, left: &mut Reader<'_>, file: &mut Vec<u8>) -> Result<(), Fault> {
+        let copied = self.reader.number()?;
         file.extend_from_slice(left.take(copied)?)?;
-        let dropped = cases.number()?;
+        let dropped = self.reader.number()?;
         left.take(dropped)?;
-        let times = cases.number()?;
-        let block = cases.block()?;
+        let times = self.reader.number()?;
+        let block = self.reader.block()?;
         for _ in 0..times {
             file.extend_from_slice(block)?;
         }
+        Ok(())
     }
-    file.extend_from_slice(left.rest())?;
-    Ok(file)
+}
+
+fn read_bases<'a>(heap: Global, bytes: &'a [u8]) -> Result<Vec<&'a [u8]>, Fault> {
+    let mut reader = Reader::new(bytes);
+    let mut bases = Vec::new(heap);
+    for _ in 0..reader.number()? {
+        bases.push(reader.block()?)?;
+    }
+    Ok(bases)
 }

@@ -1,6 +1,10 @@
 // What a judge says of a file.
+use board::{Refusal, judge, seal};
 use std::fmt;
 
+pub type Verdict = Result<Figures, Refused>;
+
+// Stays: the stored cases have four of a board's six figures, and the judge they come from gives no others.
 #[derive(Clone, Copy, PartialEq, Eq)]
 pub struct Figures {
     pub modules: usize,
@@ -9,55 +13,56 @@ pub struct Figures {
     pub depth: usize,
 }
 
-#[derive(Clone, Copy, PartialEq, Eq)]
-pub enum Verdict {
-    Accepted(Figures),
-    Refused { number: u8, place: usize },
-}
-
-impl Verdict {
-    // 0 for an accepted file.
-    pub(crate) fn number(&self) -> u8 {
-        match self {
-            Verdict::Accepted(_) => 0,
-            Verdict::Refused { number, .. } => *number,
-        }
-    }
-
-    // What the board library says of a file.
-    pub(crate) fn of(file: &[u8]) -> Verdict {
-        match board::judge(file) {
-            Ok(judged) => {
-                let found = board::seal(judged).figures();
-                Verdict::Accepted(Figures {
-                    modules: found.modules,
-                    cells: found.cells,
-                    places: found.places,
-                    depth: found.depth,
-                })
-            }
-            Err(refusal) => Verdict::Refused {
-                number: refusal.number(),
-                place: refusal.place(),
-            },
+impl From<board::Figures> for Figures {
+    fn from(top: board::Figures) -> Figures {
+        Figures {
+            modules: top.modules,
+            cells: top.cells,
+            places: top.places,
+            depth: top.depth,
         }
     }
 }
 
-impl fmt::Display for Verdict {
+impl fmt::Display for Figures {
     fn fmt<W: fmt::Write>(&self, f: &mut fmt::Formatter<W>) -> fmt::Result {
-        match self {
-            Verdict::Accepted(top) => {
-                let modules = top.modules;
-                let cells = top.cells;
-                let places = top.places;
-                let depth = top.depth;
-                write!(
-                    f,
-                    "accepted, modules {modules}, cells {cells}, places {places}, depth {depth}"
-                )
-            }
-            Verdict::Refused { number, place } => write!(f, "{number} at {place}"),
+        let modules = self.modules;
+        let cells = self.cells;
+        let places = self.places;
+        let depth = self.depth;
+        write!(
+            f,
+            "modules {modules}, cells {cells}, places {places}, depth {depth}"
+        )
+    }
+}
+
+// The number of a refusal, and the first byte of the record at fault.
+#[derive(Clone, Copy, PartialEq, Eq)]
+pub struct Refused {
+    pub number: u8,
+    pub place: usize,
+}
+
+impl From<Refusal> for Refused {
+    fn from(refusal: Refusal) -> Refused {
+        Refused {
+            number: refusal.number(),
+            place: refusal.place(),
         }
     }
+}
+
+impl fmt::Display for Refused {
+    fn fmt<W: fmt::Write>(&self, f: &mut fmt::Formatter<W>) -> fmt::Result {
+        let number = self.number;
+        let place = self.place;
+        write!(f, "{number} at {place}")
+    }
+}
+
+// What the board library says of a file.
+pub(crate) fn verdict_of(file: &[u8]) -> Verdict {
+    let judged = judge(file)?;
+    Ok(seal(judged).figures().into())
 }
