@@ -1,13 +1,12 @@
 // Calls by chance, refused ones among them.
+use board::Figures;
 use board_maker::dice::Dice;
 use flat_evaluator::calls::{Call, Room};
 
-// What calls are chosen by: the board's numbers, the lengths of the caller's memory, and where the run stands.
+// What calls are chosen by: the board's figures, the lengths of the caller's memory, and where the run stands.
 #[derive(Clone, Copy)]
 pub struct Standing {
-    pub inputs: usize,
-    pub outputs: usize,
-    pub cells: usize,
+    pub figures: Figures,
     pub most: Room,
     pub cycle: usize,
     // Whether a start may be cold.
@@ -18,105 +17,138 @@ impl Standing {
     pub fn any_call(&self, dice: &mut Dice) -> Call {
         let spoilt = dice.chance(25);
         let full = self.tape_from(1) > self.most.tape;
-        if dice.chance(if full { 30 } else { 2 }) {
-            return self.any_start(dice, spoilt);
+        let starts = dice.chance(if full { 30 } else { 2 });
+        let mut numbers = Numbers { dice, spoilt };
+        if starts {
+            return self.any_start(&mut numbers);
         }
-        match dice.below(20) {
-            0..=10 => self.any_step(dice, spoilt),
+        match numbers.dice.below(20) {
+            0..=10 => self.any_step(&mut numbers),
             11..=13 => Call::Set {
-                cell: number(dice, self.cells, spoilt),
-                cells: self.any_cells(dice, spoilt),
+                cell: numbers.below(self.figures.cells),
+                cells: self.any_cells(&mut numbers),
             },
             14 => Call::Clear {
-                cells: self.any_cells(dice, spoilt),
+                cells: self.any_cells(&mut numbers),
             },
             15..=16 => Call::Read {
-                cell: number(dice, self.cells, spoilt),
-                cells: self.any_cells(dice, spoilt),
+                cell: numbers.below(self.figures.cells),
+                cells: self.any_cells(&mut numbers),
             },
-            _ => self.any_look(dice, spoilt),
+            _ => self.any_look(&mut numbers),
         }
     }
 
     pub fn right_start(&self) -> Call {
-        Call::Power { cells: self.cells }
+        Call::Power {
+            cells: self.figures.cells,
+        }
     }
 
     // A step that is refused only for the tape.
     pub fn right_step(&self) -> Call {
         Call::Step(Room {
-            inputs: self.inputs,
-            cells: self.cells,
+            inputs: self.figures.inputs,
+            cells: self.figures.cells,
             tape: self.most.tape,
             values: 1024,
             levels: 8,
         })
     }
 
-    fn any_cells(&self, dice: &mut Dice, spoilt: bool) -> usize {
-        length(dice, self.cells, self.most.cells, spoilt)
+    fn any_cells(&self, numbers: &mut Numbers<'_>) -> usize {
+        numbers.length(self.figures.cells, self.most.cells)
     }
 
-    fn any_start(&self, dice: &mut Dice, spoilt: bool) -> Call {
-        let cells = self.any_cells(dice, spoilt);
-        if self.colds && dice.chance(60) {
+    fn any_start(&self, numbers: &mut Numbers<'_>) -> Call {
+        let cells = self.any_cells(numbers);
+        if self.colds && numbers.dice.chance(60) {
             Call::Cold { cells }
         } else {
             Call::Power { cells }
         }
     }
 
-    fn any_step(&self, dice: &mut Dice, spoilt: bool) -> Call {
-        let miscounted = spoilt && dice.chance(40);
+    fn any_step(&self, numbers: &mut Numbers<'_>) -> Call {
+        let miscounted = numbers.errs(40);
         Call::Step(Room {
-            inputs: length(dice, self.inputs, self.most.inputs, miscounted),
-            cells: self.any_cells(dice, spoilt),
-            tape: room(dice, self.tape_from(1), self.most.tape, spoilt),
-            values: room(dice, 1024, self.most.values, spoilt),
-            levels: room(dice, 8, self.most.levels, spoilt),
+            inputs: numbers
+                .spoilt_if(miscounted)
+                .length(self.figures.inputs, self.most.inputs),
+            cells: self.any_cells(numbers),
+            tape: numbers.room(self.tape_from(1), self.most.tape),
+            values: numbers.room(1024, self.most.values),
+            levels: numbers.room(8, self.most.levels),
         })
     }
 
-    fn any_look(&self, dice: &mut Dice, spoilt: bool) -> Call {
-        let misnumbered = spoilt && dice.chance(40);
-        let misfit = spoilt && dice.chance(40);
+    fn any_look(&self, numbers: &mut Numbers<'_>) -> Call {
+        let misnumbered = numbers.errs(40);
+        let misfit = numbers.errs(40);
         Call::Look {
-            cycle: number(dice, self.cycle, spoilt),
-            output: number(dice, self.outputs, misnumbered),
-            cells: self.any_cells(dice, misfit),
-            tape: room(dice, self.tape_from(0), self.most.tape, misfit),
+            cycle: numbers.below(self.cycle),
+            output: numbers.spoilt_if(misnumbered).below(self.figures.outputs),
+            cells: self.any_cells(&mut numbers.spoilt_if(misfit)),
+            tape: numbers
+                .spoilt_if(misfit)
+                .room(self.tape_from(0), self.most.tape),
         }
     }
 
     // How many tape values the cycles so far and some more have.
     fn tape_from(&self, more: usize) -> usize {
-        self.cycle.saturating_add(more).saturating_mul(self.outputs)
+        self.cycle
+            .saturating_add(more)
+            .saturating_mul(self.figures.outputs)
     }
 }
 
-// A number below the limit; spoilt, perhaps the limit or more.
-fn number(dice: &mut Dice, limit: usize, spoilt: bool) -> usize {
-    if spoilt && dice.chance(60) {
-        limit.saturating_add(dice.below(3))
-    } else {
-        dice.below(limit)
-    }
+// The numbers of a call by chance: right ones, or where the call is spoilt perhaps wrong ones.
+#[derive(Drop)]
+struct Numbers<'d> {
+    dice: &'d mut Dice,
+    spoilt: bool,
 }
 
-// The right length; spoilt, perhaps another.
-fn length(dice: &mut Dice, right: usize, most: usize, spoilt: bool) -> usize {
-    if spoilt && dice.chance(30) {
-        dice.below(most.saturating_add(1))
-    } else {
-        right
+impl Numbers<'_> {
+    // Numbers from the same dice, spoilt or not.
+    fn spoilt_if(&mut self, spoilt: bool) -> Numbers<'_> {
+        Numbers {
+            dice: self.dice,
+            spoilt,
+        }
     }
-}
 
-// At least the least length where the memory has as much; spoilt, perhaps less.
-fn room(dice: &mut Dice, least: usize, most: usize, spoilt: bool) -> usize {
-    if spoilt && dice.chance(30) {
-        dice.below(least).min(most)
-    } else {
-        dice.between(least, most).min(most)
+    // Whether a spoilt number is to be wrong, in so many of a hundred cases.
+    fn errs(&mut self, percent: usize) -> bool {
+        self.spoilt && self.dice.chance(percent)
+    }
+
+    // A number below the limit; a wrong one is the limit or more.
+    fn below(&mut self, limit: usize) -> usize {
+        if self.errs(60) {
+            limit.saturating_add(self.dice.below(3))
+        } else {
+            self.dice.below(limit)
+        }
+    }
+
+    // The right length; a wrong one is any that the memory has.
+    fn length(&mut self, right: usize, most: usize) -> usize {
+        if self.errs(30) {
+            self.dice.below(most.saturating_add(1))
+        } else {
+            right
+        }
+    }
+
+    // At least the least length where the memory has as much; a wrong one is less.
+    fn room(&mut self, least: usize, most: usize) -> usize {
+        let length = if self.errs(30) {
+            self.dice.below(least)
+        } else {
+            self.dice.between(least, most)
+        };
+        length.min(most)
     }
 }

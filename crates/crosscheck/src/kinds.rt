@@ -1,46 +1,62 @@
 // The library's kinds, each with the values of the flat board that stand for its own.
 use board::Board;
 use board_maker::dice::Dice;
-use flat_evaluator::values::{BitSet, Marked, Row, Situation, Value};
+use flat_evaluator::values::{BitSet, Marked, Row, Value};
 use run::{CallRefusal, Run, cold, power};
-use signal::Signal;
 use signal::levels::Level;
 use signal::marks::Marks;
+use signal::{Signal, WithUnknown};
+use std::array;
 
 pub trait Kind: Signal {
     type Own: Value;
 
+    type Start: ColdStart<Self>;
+
     fn own(self) -> Self::Own;
 
     fn any(dice: &mut Dice) -> Self;
+}
 
+// Cold starts on a kind.
+pub trait ColdStart<K> {
     // The unknown, of a kind that has one.
-    fn blank() -> Option<Self> {
+    fn unknown() -> Option<K>;
+
+    // A cold start; on a kind that has no unknown, a start from low cells.
+    fn start<'b, 'f>(board: &'b Board<'f>, cells: &mut [K]) -> Result<Run<'b, 'f>, CallRefusal>;
+}
+
+// Of kinds that have an unknown.
+pub struct FromUnknown;
+
+impl<K: WithUnknown> ColdStart<K> for FromUnknown {
+    fn unknown() -> Option<K> {
+        Some(K::unknown())
+    }
+
+    fn start<'b, 'f>(board: &'b Board<'f>, cells: &mut [K]) -> Result<Run<'b, 'f>, CallRefusal> {
+        cold(board, cells)
+    }
+}
+
+// Of kinds that have none.
+pub struct FromLow;
+
+impl<K: Signal> ColdStart<K> for FromLow {
+    fn unknown() -> Option<K> {
         None
     }
 
-    // A cold start, of a kind that has an unknown; of others a start from low cells.
-    fn start_blank<'b, 'f>(
-        board: &'b Board<'f>,
-        cells: &mut [Self],
-    ) -> Result<Run<'b, 'f>, CallRefusal> {
+    fn start<'b, 'f>(board: &'b Board<'f>, cells: &mut [K]) -> Result<Run<'b, 'f>, CallRefusal> {
         power(board, cells)
     }
 }
 
-// A value that is settled in the situation.
-pub fn any_settled<K: Kind>(dice: &mut Dice, situation: &Situation) -> K {
-    for _ in 0..20 {
-        let value = K::any(dice);
-        if value.own().is_settled(situation) {
-            return value;
-        }
-    }
-    K::low()
-}
-
 impl Kind for bool {
     type Own = bool;
+
+    type Start = FromLow;
 
     fn own(self) -> bool {
         self
@@ -53,6 +69,8 @@ impl Kind for bool {
 
 impl Kind for Level {
     type Own = BitSet;
+
+    type Start = FromUnknown;
 
     fn own(self) -> BitSet {
         BitSet {
@@ -68,32 +86,17 @@ impl Kind for Level {
             _ => Level::Unknown,
         }
     }
-
-    fn blank() -> Option<Level> {
-        Some(Level::Unknown)
-    }
-
-    fn start_blank<'b, 'f>(
-        board: &'b Board<'f>,
-        cells: &mut [Level],
-    ) -> Result<Run<'b, 'f>, CallRefusal> {
-        cold(board, cells)
-    }
 }
 
 // The bits of a number, the lowest first.
 fn bits_of(number: u64) -> [bool; 64] {
-    let mut bits = [false; 64];
-    let mut rest = number;
-    for bit in bits.iter_mut() {
-        *bit = rest % 2 == 1;
-        rest /= 2;
-    }
-    bits
+    array::from_fn(|place| number >> place & 1 == 1)
 }
 
 impl Kind for u64 {
     type Own = Row;
+
+    type Start = FromLow;
 
     fn own(self) -> Row {
         Row {
@@ -110,59 +113,31 @@ impl Kind for u64 {
     }
 }
 
-fn own_marked<K: Kind>(value: Marks<K>) -> Marked<K::Own> {
-    Marked {
-        below: value.below.own(),
-        marks: bits_of(value.marks),
-    }
-}
+// Marks over any kind, with an unknown where the kind below has one.
+impl<K: Kind> Kind for Marks<K>
+where
+    K::Start: ColdStart<Marks<K>>,
+{
+    type Own = Marked<K::Own>;
 
-fn any_marked<K: Kind>(dice: &mut Dice) -> Marks<K> {
-    let marks = match dice.below(8) {
-        0 => dice.word() & dice.word() & dice.word(),
-        1..=2 => 1u64.rotate_left((dice.word() & 63) as u32),
-        _ => 0,
-    };
-    Marks {
-        below: K::any(dice),
-        marks,
-    }
-}
+    type Start = K::Start;
 
-impl Kind for Marks<bool> {
-    type Own = Marked<bool>;
-
-    fn own(self) -> Marked<bool> {
-        own_marked(self)
+    fn own(self) -> Marked<K::Own> {
+        Marked {
+            below: self.below.own(),
+            marks: bits_of(self.marks),
+        }
     }
 
-    fn any(dice: &mut Dice) -> Marks<bool> {
-        any_marked(dice)
-    }
-}
-
-impl Kind for Marks<Level> {
-    type Own = Marked<BitSet>;
-
-    fn own(self) -> Marked<BitSet> {
-        own_marked(self)
-    }
-
-    fn any(dice: &mut Dice) -> Marks<Level> {
-        any_marked(dice)
-    }
-
-    fn blank() -> Option<Marks<Level>> {
-        Some(Marks {
-            below: Level::Unknown,
-            marks: 0,
-        })
-    }
-
-    fn start_blank<'b, 'f>(
-        board: &'b Board<'f>,
-        cells: &mut [Marks<Level>],
-    ) -> Result<Run<'b, 'f>, CallRefusal> {
-        cold(board, cells)
+    fn any(dice: &mut Dice) -> Marks<K> {
+        let marks = match dice.below(8) {
+            0 => dice.word() & dice.word() & dice.word(),
+            1..=2 => 1u64.rotate_left((dice.word() & 63) as u32),
+            _ => 0,
+        };
+        Marks {
+            below: K::any(dice),
+            marks,
+        }
     }
 }

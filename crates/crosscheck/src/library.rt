@@ -1,32 +1,83 @@
 // The library's calls, on memory that is lent to them. This is the only place that makes them.
-use crate::kinds::Kind;
+use crate::kinds::{ColdStart, Kind};
 use board::Board;
 use board_maker::dice::Dice;
 use flat_evaluator::calls::{Answer, Call, Room};
 use run::{CallRefusal, Level, Run, power};
 use std::alloc::{AllocError, Global};
 
+// A run by the library, and the memory that is lent to its calls.
 #[derive(Drop)]
-pub struct Lent<K> {
+pub struct LibraryRun<'b, 'f, K> {
+    board: &'b Board<'f>,
+    run: Run<'b, 'f>,
     pub cells: Vec<K>,
     pub tape: Vec<K>,
     pub values: Vec<K>,
     pub levels: Vec<Level>,
 }
 
-impl<K: Kind> Lent<K> {
+impl<'b, 'f, K: Kind> LibraryRun<'b, 'f, K> {
     // As much memory as a call may be handed, with any contents.
-    pub fn new(heap: Global, dice: &mut Dice, most: &Room) -> Result<Lent<K>, AllocError> {
-        let mut levels = Vec::new(heap);
-        for _ in 0..most.levels {
-            levels.push(Level::new())?;
-        }
-        Ok(Lent {
+    pub fn new(
+        heap: Global,
+        board: &'b Board<'f>,
+        run: Run<'b, 'f>,
+        dice: &mut Dice,
+        most: &Room,
+    ) -> Result<LibraryRun<'b, 'f, K>, AllocError> {
+        Ok(LibraryRun {
+            board,
+            run,
             cells: any_values(heap, dice, most.cells)?,
             tape: any_values(heap, dice, most.tape)?,
             values: any_values(heap, dice, most.values)?,
-            levels,
+            levels: vec![in heap; Level::new(); most.levels]?,
         })
+    }
+
+    // Makes the call on the first values of the memory, as many as it says; a start that is not refused replaces the run.
+    pub fn call(&mut self, call: &Call, handed: &[K]) -> Result<Answer<K>, CallRefusal> {
+        let cells = first_mut(self.cells.as_mut_slice(), call.cells());
+        match call {
+            Call::Power { .. } => {
+                self.run = power(self.board, cells)?;
+                Ok(Answer::Done)
+            }
+            Call::Cold { .. } => {
+                self.run = K::Start::start(self.board, cells)?;
+                Ok(Answer::Done)
+            }
+            Call::Step(room) => self.step(room, handed),
+            Call::Set { cell, .. } => {
+                let value = handed.first().copied().unwrap_or(K::low());
+                self.run.set(*cell, value, cells).map(|()| Answer::Done)
+            }
+            Call::Clear { .. } => self.run.clear(cells).map(|()| Answer::Done),
+            Call::Read { cell, .. } => self.run.read(*cell, cells).map(Answer::Value),
+            Call::Look {
+                cycle,
+                output,
+                tape,
+                ..
+            } => {
+                let past = first(self.tape.as_slice(), *tape);
+                self.run
+                    .look(*output, *cycle, cells, past)
+                    .map(Answer::Value)
+            }
+        }
+    }
+
+    fn step(&mut self, room: &Room, inputs: &[K]) -> Result<Answer<K>, CallRefusal> {
+        let count = self.run.step(
+            inputs,
+            first_mut(self.cells.as_mut_slice(), room.cells),
+            first_mut(self.tape.as_mut_slice(), room.tape),
+            first_mut(self.values.as_mut_slice(), room.values),
+            first_mut(self.levels.as_mut_slice(), room.levels),
+        )?;
+        Ok(Answer::Counted(count as usize))
     }
 }
 
@@ -35,94 +86,15 @@ pub fn any_values<K: Kind>(
     dice: &mut Dice,
     count: usize,
 ) -> Result<Vec<K>, AllocError> {
-    let mut values = Vec::new(heap);
-    for _ in 0..count {
-        values.push(K::any(dice))?;
-    }
-    Ok(values)
+    (0..count).map(|_| K::any(dice)).collect(heap)
 }
 
-// Makes the call on the first values of the memory, as many as it says; a start that is not refused replaces the run.
-pub fn perform<'b, 'f, K: Kind>(
-    board: &'b Board<'f>,
-    run: &mut Run<'b, 'f>,
-    lent: &mut Lent<K>,
-    call: &Call,
-    handed: &[K],
-) -> Answer<K> {
-    let count = call.cells().min(lent.cells.len());
-    let cells = &mut lent.cells.as_mut_slice()[0..count];
-    match call {
-        Call::Power { .. } => started(run, power(board, cells)),
-        Call::Cold { .. } => started(run, K::start_blank(board, cells)),
-        Call::Step(room) => step(run, lent, room, handed),
-        Call::Set { cell, .. } => {
-            let value = handed.first().copied().unwrap_or(K::low());
-            done(run.set(*cell, value, cells))
-        }
-        Call::Clear { .. } => done(run.clear(cells)),
-        Call::Read { cell, .. } => valued(run.read(*cell, cells)),
-        Call::Look {
-            cycle,
-            output,
-            tape,
-            ..
-        } => {
-            let past = (*tape).min(lent.tape.len());
-            valued(run.look(*output, *cycle, cells, &lent.tape.as_slice()[0..past]))
-        }
-    }
+// The first values, so many, or all where there are fewer.
+pub fn first<T>(values: &[T], count: usize) -> &[T] {
+    values.get(..count).unwrap_or(values)
 }
 
-fn started<'b, 'f, K>(run: &mut Run<'b, 'f>, start: Result<Run<'b, 'f>, CallRefusal>) -> Answer<K> {
-    match start {
-        Ok(new) => {
-            *run = new;
-            Answer::Done
-        }
-        Err(refusal) => Answer::Refused(refusal.number()),
-    }
-}
-
-fn step<K: Kind>(
-    run: &mut Run<'_, '_>,
-    lent: &mut Lent<K>,
-    room: &Room,
-    inputs: &[K],
-) -> Answer<K> {
-    let cells = room.cells.min(lent.cells.len());
-    let tape = room.tape.min(lent.tape.len());
-    let values = room.values.min(lent.values.len());
-    let levels = room.levels.min(lent.levels.len());
-    match run.step(
-        inputs,
-        &mut lent.cells.as_mut_slice()[0..cells],
-        &mut lent.tape.as_mut_slice()[0..tape],
-        &mut lent.values.as_mut_slice()[0..values],
-        &mut lent.levels.as_mut_slice()[0..levels],
-    ) {
-        Ok(count) => Answer::Counted(count as usize),
-        Err(refusal) => Answer::Refused(refusal.number()),
-    }
-}
-
-fn done<K>(outcome: Result<(), CallRefusal>) -> Answer<K> {
-    match outcome {
-        Ok(()) => Answer::Done,
-        Err(refusal) => Answer::Refused(refusal.number()),
-    }
-}
-
-fn valued<K>(outcome: Result<K, CallRefusal>) -> Answer<K> {
-    match outcome {
-        Ok(value) => Answer::Value(value),
-        Err(refusal) => Answer::Refused(refusal.number()),
-    }
-}
-
-// Level records show themselves, and nothing else tells them apart.
-pub fn same_levels(heap: Global, one: &Vec<Level>, other: &Vec<Level>) -> Result<bool, AllocError> {
-    let first = format!(in heap; "{one:?}")?;
-    let second = format!(in heap; "{other:?}")?;
-    Ok(first.as_bytes() == second.as_bytes())
+fn first_mut<T>(values: &mut [T], count: usize) -> &mut [T] {
+    let end = count.min(values.len());
+    &mut values[..end]
 }

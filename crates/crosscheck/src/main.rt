@@ -10,10 +10,10 @@ mod report;
 mod session;
 mod view;
 
-use crate::report::{Difference, Tally, show_head};
-use crate::session::{Boards, Task, compare_runs};
+use crate::report::{Difference, Tallies};
+use crate::session::Task;
 use anyhow::anyhow;
-use board::Board;
+use board::{Figures, Refusal};
 use board_maker::dice::Dice;
 use board_maker::generator::{board_file, deep_board};
 use flat_evaluator::fault::Fault;
@@ -23,21 +23,18 @@ use flat_evaluator::flatten::flatten;
 use signal::levels::Level;
 use signal::marks::Marks;
 use std::alloc::Global;
-use std::{env, io};
+use std::{env, fmt};
 
 const BOARDS: usize = 400;
-
-const CALLS: usize = 60;
 
 // As many steps as a run can have.
 const ALL_CYCLES: usize = 65_535;
 
-const SIZE: u8 = 12;
-
+// Where the top's record begins in a file.
 const TOP_PLACE: usize = 6;
 
 // The most that a board had.
-#[derive(Clone, Copy)]
+#[derive(Clone, Copy, Default)]
 struct Largest {
     cells: usize,
     places: usize,
@@ -45,94 +42,113 @@ struct Largest {
 }
 
 impl Largest {
-    fn with(self, flat: &Flat) -> Largest {
-        Largest {
-            cells: self.cells.max(flat.cells.len()),
-            places: self.places.max(flat.places),
-            depth: self.depth.max(flat.depth),
+    fn add(&mut self, figures: &Figures) {
+        self.cells = self.cells.max(figures.cells);
+        self.places = self.places.max(figures.places);
+        self.depth = self.depth.max(figures.depth);
+    }
+}
+
+impl fmt::Display for Largest {
+    fn fmt<W: fmt::Write>(&self, f: &mut fmt::Formatter<W>) -> fmt::Result {
+        let Largest {
+            cells,
+            places,
+            depth,
+        } = self;
+        write!(f, "{cells} cells, {places} places, {depth} levels")
+    }
+}
+
+// The toggle boards run through all cycles, and on the others there are only calls of all sorts.
+fn steps_of(number: usize) -> usize {
+    match number {
+        1 | 2 => ALL_CYCLES,
+        _ => 0,
+    }
+}
+
+fn figures_of(modules: usize, flat: &Flat) -> Figures {
+    Figures {
+        modules,
+        inputs: flat.inputs.len(),
+        outputs: flat.outputs.len(),
+        cells: flat.cells.len(),
+        places: flat.places,
+        depth: flat.depth,
+    }
+}
+
+// The boards of a seed, and what was compared on them.
+#[derive(Drop)]
+struct Comparison {
+    heap: Global,
+    seed: u64,
+    tallies: Tallies,
+    largest: Largest,
+}
+
+impl Comparison {
+    fn new(heap: Global, seed: u64) -> Comparison {
+        Comparison {
+            heap,
+            seed,
+            tallies: Tallies::new(),
+            largest: Largest::default(),
         }
     }
 
-    fn show(&self, rt: &HostRuntime) -> io::Result<()> {
-        let cells = self.cells;
-        let places = self.places;
-        let depth = self.depth;
-        println!(rt; "boards to {cells} cells, {places} places, {depth} levels")
+    fn compare_board(&mut self, number: usize) -> Result<(), Fault> {
+        let heap = self.heap;
+        let mut dice = Dice::new(
+            self.seed
+                .wrapping_mul(1_000_003)
+                .wrapping_add(number as u64),
+        );
+        let file = board_file(heap, &mut dice, number)?;
+        let modules = decode(heap, file.as_slice())?;
+        let flat = flatten(heap, modules.as_slice())?;
+        let figures = figures_of(modules.len(), &flat);
+        self.largest.add(&figures);
+        let Ok(judged) = board::judge(file.as_slice()) else {
+            self.tallies.bits.differ(Difference::Verdict);
+            return Ok(());
+        };
+        let board = board::seal(judged);
+        if board.figures() != figures {
+            self.tallies.bits.differ(Difference::Figures);
+        }
+        let task = Task {
+            heap,
+            number,
+            board: &board,
+            flat: &flat,
+            figures,
+            steps: steps_of(number),
+        };
+        self.compare_kinds(&task, &mut dice)
     }
-}
 
-// The toggle boards run through all cycles, and the others make calls only.
-fn task(number: usize) -> Task {
-    Task {
-        board: number,
-        steps: if number == 1 || number == 2 {
-            ALL_CYCLES
-        } else {
-            0
-        },
-        calls: CALLS,
+    // Stays: a kind is a type, and no loop or closure goes over types, so that each kind has a call of its own.
+    fn compare_kinds(&mut self, task: &Task<'_, '_, '_>, dice: &mut Dice) -> Result<(), Fault> {
+        let tallies = &mut self.tallies;
+        task.compare::<bool>(dice, &mut tallies.bits)?;
+        task.compare::<Level>(dice, &mut tallies.levels)?;
+        task.compare::<u64>(dice, &mut tallies.rows)?;
+        task.compare::<Marks<bool>>(dice, &mut tallies.marked_bits)?;
+        task.compare::<Marks<Level>>(dice, &mut tallies.marked_levels)
     }
-}
 
-fn compare_kinds(
-    heap: Global,
-    boards: Boards<'_, '_, '_>,
-    dice: &mut Dice,
-    task: &Task,
-    tallies: &mut [Tally; 5],
-) -> Result<(), Fault> {
-    compare_runs::<bool>(heap, boards, dice, task, &mut tallies[0])?;
-    compare_runs::<Level>(heap, boards, dice, task, &mut tallies[1])?;
-    compare_runs::<u64>(heap, boards, dice, task, &mut tallies[2])?;
-    compare_runs::<Marks<bool>>(heap, boards, dice, task, &mut tallies[3])?;
-    compare_runs::<Marks<Level>>(heap, boards, dice, task, &mut tallies[4])
-}
-
-fn same_figures(board: &Board<'_>, modules: usize, flat: &Flat) -> bool {
-    let figures = board.figures();
-    figures.modules == modules
-        && figures.inputs == flat.inputs.len()
-        && figures.outputs == flat.outputs.len()
-        && figures.cells == flat.cells.len()
-        && figures.places == flat.places
-        && figures.depth == flat.depth
-}
-
-fn compare_board(
-    heap: Global,
-    number: usize,
-    seed: u64,
-    tallies: &mut [Tally; 5],
-    largest: &mut Largest,
-) -> Result<(), Fault> {
-    let mut dice = Dice::new(seed.wrapping_mul(1_000_003).wrapping_add(number as u64));
-    let file = board_file(heap, &mut dice, number)?;
-    let modules = decode(heap, file.as_slice())?;
-    let flat = flatten(heap, modules.as_slice())?;
-    *largest = largest.with(&flat);
-    let Ok(judged) = board::judge(file.as_slice()) else {
-        tallies[0].differ(Difference::Verdict);
-        return Ok(());
-    };
-    let board = board::seal(judged);
-    if !same_figures(&board, modules.len(), &flat) {
-        tallies[0].differ(Difference::Figures);
+    // A board of nine levels is to be refused for its size, in the top's record.
+    fn compare_nine_levels(&mut self) -> Result<(), Fault> {
+        let mut dice = Dice::new(self.seed);
+        let file = deep_board(self.heap, &mut dice, 9)?;
+        let refusal = board::judge(file.as_slice()).err();
+        if refusal != Some(Refusal::Size { place: TOP_PLACE }) {
+            self.tallies.bits.differ(Difference::Depth);
+        }
+        Ok(())
     }
-    let boards = Boards {
-        board: &board,
-        flat: &flat,
-    };
-    compare_kinds(heap, boards, &mut dice, &task(number), tallies)
-}
-
-// Whether a board of nine levels is refused for its size, in the top's record.
-fn refuses_nine_levels(heap: Global, seed: u64) -> Result<bool, Fault> {
-    let mut dice = Dice::new(seed);
-    let file = deep_board(heap, &mut dice, 9)?;
-    Ok(match board::judge(file.as_slice()) {
-        Ok(_) => false,
-        Err(refusal) => refusal.number() == SIZE && refusal.place() == TOP_PLACE,
-    })
 }
 
 #[derive(Clone, Copy)]
@@ -159,43 +175,19 @@ fn number_in(word: Option<String>, default: usize) -> anyhow::Result<usize> {
     }
 }
 
-// Prints the counts, and how many differences there are in all.
-fn show(rt: &HostRuntime, boards: usize, tallies: &[Tally; 5]) -> anyhow::Result<usize> {
-    show_head(rt)?;
-    for tally in tallies {
-        tally.show(rt)?;
-    }
-    let mut differences: usize = 0;
-    for tally in tallies {
-        tally.show_first(rt)?;
-        differences = differences.saturating_add(tally.differences);
-    }
-    println!(rt; "{boards} boards, {differences} differences")?;
-    Ok(differences)
-}
-
 fn run(rt: &HostRuntime) -> anyhow::Result<()> {
     let words = read_words(rt)?;
-    let mut tallies = [
-        Tally::new("bits"),
-        Tally::new("levels"),
-        Tally::new("rows"),
-        Tally::new("marks/bits"),
-        Tally::new("marks/levels"),
-    ];
-    let mut largest = Largest {
-        cells: 0,
-        places: 0,
-        depth: 0,
-    };
+    let mut comparison = Comparison::new(rt.alloc(), words.seed);
     for number in words.first..words.first.saturating_add(words.boards) {
-        compare_board(rt.alloc(), number, words.seed, &mut tallies, &mut largest)?;
+        comparison.compare_board(number)?;
     }
-    largest.show(rt)?;
-    if !refuses_nine_levels(rt.alloc(), words.seed)? {
-        tallies[0].differ(Difference::Depth);
-    }
-    if show(rt, words.boards, &tallies)? > 0 {
+    println!(rt; "boards to {}", comparison.largest)?;
+    comparison.compare_nine_levels()?;
+    comparison.tallies.show(rt)?;
+    let boards = words.boards;
+    let differences = comparison.tallies.differences();
+    println!(rt; "{boards} boards, {differences} differences")?;
+    if differences > 0 {
         return Err(anyhow!("the library and the flat evaluator differ"));
     }
     Ok(())

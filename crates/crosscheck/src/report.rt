@@ -1,6 +1,8 @@
 // What was compared, and what differed.
-use flat_evaluator::calls::{Answer, Call};
-use std::io;
+use crate::view::{Expected, View};
+use flat_evaluator::calls::{Call, Outcome, Refusal};
+use flat_evaluator::values::Value;
+use std::{fmt, io};
 
 // What can differ in one call.
 #[derive(Clone, Copy)]
@@ -16,9 +18,9 @@ pub enum Difference {
     Unsettled,
 }
 
-impl Difference {
-    fn text(self) -> &'static str {
-        match self {
+impl fmt::Display for Difference {
+    fn fmt<W: fmt::Write>(&self, f: &mut fmt::Formatter<W>) -> fmt::Result {
+        f.write_str(match self {
             Difference::Verdict => "the judge refuses the board",
             Difference::Depth => "a board of nine levels is not refused as SIZE at 6",
             Difference::Figures => "the figures of the board differ",
@@ -28,50 +30,118 @@ impl Difference {
             Difference::Scratch => "a refused call changed working values or level records",
             Difference::Denied => "a value denies the bit of the flat run",
             Difference::Unsettled => "a value is not settled though all handed in are",
-        }
+        })
     }
+}
+
+// A call of a board, by their numbers.
+#[derive(Clone, Copy, Default)]
+struct Position {
+    board: usize,
+    call: usize,
 }
 
 #[derive(Clone, Copy)]
 struct Finding {
-    board: usize,
-    call: usize,
+    position: Position,
     difference: Difference,
 }
 
-// What values have that they should not, and how many were looked at.
-#[derive(Clone, Copy)]
-pub struct Seen {
-    pub differs: bool,
-    pub denies: bool,
-    pub unsettled: bool,
-    pub values: usize,
-    pub bits: usize,
+impl fmt::Display for Finding {
+    fn fmt<W: fmt::Write>(&self, f: &mut fmt::Formatter<W>) -> fmt::Result {
+        let Position { board, call } = self.position;
+        write!(f, "board {board}, call {call}: {}", self.difference)
+    }
+}
+
+// How many calls were not refused, by sort.
+#[derive(Clone, Copy, Default)]
+struct Answered {
+    power: usize,
+    cold: usize,
+    step: usize,
+    set: usize,
+    clear: usize,
+    read: usize,
+    look: usize,
+}
+
+impl Answered {
+    fn count(&mut self, call: &Call) {
+        let count = match call {
+            Call::Power { .. } => &mut self.power,
+            Call::Cold { .. } => &mut self.cold,
+            Call::Step(_) => &mut self.step,
+            Call::Set { .. } => &mut self.set,
+            Call::Clear { .. } => &mut self.clear,
+            Call::Read { .. } => &mut self.read,
+            Call::Look { .. } => &mut self.look,
+        };
+        add(count, 1);
+    }
+}
+
+impl fmt::Display for Answered {
+    fn fmt<W: fmt::Write>(&self, f: &mut fmt::Formatter<W>) -> fmt::Result {
+        write!(f, "{:6} {:6} {:6} ", self.power, self.cold, self.step)?;
+        write!(
+            f,
+            "{:6} {:6} {:6} {:6}",
+            self.set, self.clear, self.read, self.look
+        )
+    }
+}
+
+// How many calls were refused, by refusal.
+#[derive(Clone, Copy, Default)]
+struct Refused {
+    count: usize,
+    index: usize,
+    fit: usize,
+    tape: usize,
+    unseen: usize,
+}
+
+impl Refused {
+    fn count(&mut self, refusal: Refusal) {
+        let count = match refusal {
+            Refusal::Count => &mut self.count,
+            Refusal::Index => &mut self.index,
+            Refusal::Fit => &mut self.fit,
+            Refusal::Tape => &mut self.tape,
+            Refusal::Unseen => &mut self.unseen,
+        };
+        add(count, 1);
+    }
+}
+
+impl fmt::Display for Refused {
+    fn fmt<W: fmt::Write>(&self, f: &mut fmt::Formatter<W>) -> fmt::Result {
+        write!(f, "{:6} {:6} {:6} ", self.count, self.index, self.fit)?;
+        write!(f, "{:6} {:6}", self.tape, self.unseen)
+    }
 }
 
 // The counts of one kind.
 #[derive(Drop)]
 pub struct Tally {
     name: &'static str,
-    board: usize,
-    call: usize,
-    // Calls that were not refused, by sort, and the others by the numbers 13 to 17.
-    answered: [usize; 7],
-    refused: [usize; 5],
+    position: Position,
+    answered: Answered,
+    refused: Refused,
     values: usize,
     bits: usize,
-    pub differences: usize,
+    differences: usize,
     first: Option<Finding>,
 }
 
 impl Tally {
-    pub fn new(name: &'static str) -> Tally {
+    fn new(name: &'static str) -> Tally {
         Tally {
             name,
-            board: 0,
-            call: 0,
-            answered: [0; 7],
-            refused: [0; 5],
+            position: Position::default(),
+            answered: Answered::default(),
+            refused: Refused::default(),
             values: 0,
             bits: 0,
             differences: 0,
@@ -80,19 +150,15 @@ impl Tally {
     }
 
     pub fn begin(&mut self, board: usize) {
-        self.board = board;
-        self.call = 0;
+        self.position = Position { board, call: 0 };
     }
 
-    // Counts a call by what it is to answer.
-    pub fn count<V>(&mut self, call: &Call, answer: &Answer<V>) {
-        add(&mut self.call, 1);
-        match answer {
-            Answer::Refused(number) => add_at(
-                &mut self.refused,
-                usize::from(*number).saturating_sub(13),
-            ),
-            _ => add_at(&mut self.answered, column(call)),
+    // Counts a call by what it is to come to.
+    pub fn count<V>(&mut self, call: &Call, outcome: &Outcome<V>) {
+        add(&mut self.position.call, 1);
+        match outcome {
+            Ok(_) => self.answered.count(call),
+            Err(refusal) => self.refused.count(*refusal),
         }
     }
 
@@ -100,74 +166,99 @@ impl Tally {
         add(&mut self.differences, 1);
         if self.first.is_none() {
             self.first = Some(Finding {
-                board: self.board,
-                call: self.call,
+                position: self.position,
                 difference,
             });
         }
     }
 
-    pub fn note(&mut self, seen: &Seen, difference: Difference) {
-        add(&mut self.values, seen.values);
-        add(&mut self.bits, seen.bits);
-        if seen.differs {
+    // Counts values, and what they have that they should not.
+    pub fn compare<V: Value>(
+        &mut self,
+        view: &View,
+        found: &[V],
+        expected: &Expected<'_, V>,
+        difference: Difference,
+    ) {
+        add(&mut self.values, found.len());
+        add(&mut self.bits, found.len().min(expected.bits.len()));
+        if found != expected.values {
             self.differ(difference);
         }
-        if seen.denies {
+        if view.deny(found, expected.bits) {
             self.differ(Difference::Denied);
         }
-        if seen.unsettled {
+        if view.unsettled(found, expected.bits) {
             self.differ(Difference::Unsettled);
         }
     }
 
-    pub fn show(&self, rt: &HostRuntime) -> io::Result<()> {
-        let name = self.name;
-        print!(rt; "{name:12}")?;
-        for count in self.answered.iter().chain(self.refused.iter()) {
-            print!(rt; " {count:6}")?;
+    fn show_first(&self, rt: &HostRuntime) -> io::Result<()> {
+        match self.first {
+            Some(finding) => println!(rt; "{}, {finding}", self.name),
+            None => Ok(()),
         }
-        let values = self.values;
-        let bits = self.bits;
-        println!(rt; " {values:10} {bits:10}")
-    }
-
-    pub fn show_first(&self, rt: &HostRuntime) -> io::Result<()> {
-        let Some(finding) = self.first else {
-            return Ok(());
-        };
-        let name = self.name;
-        let board = finding.board;
-        let call = finding.call;
-        let text = finding.difference.text();
-        println!(rt; "{name}, board {board}, call {call}: {text}")
     }
 }
 
-pub fn show_head(rt: &HostRuntime) -> io::Result<()> {
-    println!(rt;
-        "kind          power   cold   step    set  clear   read   look  COUNT  INDEX    FIT   TAPE UNSEEN     values       bits"
-    )
-}
-
-fn column(call: &Call) -> usize {
-    match call {
-        Call::Power { .. } => 0,
-        Call::Cold { .. } => 1,
-        Call::Step(_) => 2,
-        Call::Set { .. } => 3,
-        Call::Clear { .. } => 4,
-        Call::Read { .. } => 5,
-        Call::Look { .. } => 6,
+impl fmt::Display for Tally {
+    fn fmt<W: fmt::Write>(&self, f: &mut fmt::Formatter<W>) -> fmt::Result {
+        write!(f, "{:12} {} {} ", self.name, self.answered, self.refused)?;
+        write!(f, "{:10} {:10}", self.values, self.bits)
     }
 }
 
-fn add_at(counts: &mut [usize], place: usize) {
-    if let Some(count) = counts.get_mut(place) {
-        add(count, 1);
+// The counts of all kinds.
+#[derive(Drop)]
+pub struct Tallies {
+    pub bits: Tally,
+    pub levels: Tally,
+    pub rows: Tally,
+    pub marked_bits: Tally,
+    pub marked_levels: Tally,
+}
+
+impl Tallies {
+    pub fn new() -> Tallies {
+        Tallies {
+            bits: Tally::new("bits"),
+            levels: Tally::new("levels"),
+            rows: Tally::new("rows"),
+            marked_bits: Tally::new("marks/bits"),
+            marked_levels: Tally::new("marks/levels"),
+        }
+    }
+
+    fn all(&self) -> [&Tally; 5] {
+        [
+            &self.bits,
+            &self.levels,
+            &self.rows,
+            &self.marked_bits,
+            &self.marked_levels,
+        ]
+    }
+
+    pub fn differences(&self) -> usize {
+        self.all()
+            .iter()
+            .fold(0, |sum, tally| tally.differences.saturating_add(sum))
+    }
+
+    pub fn show(&self, rt: &HostRuntime) -> io::Result<()> {
+        println!(rt;
+            "kind          power   cold   step    set  clear   read   look  COUNT  INDEX    FIT   TAPE UNSEEN     values       bits"
+        )?;
+        for tally in self.all() {
+            println!(rt; "{tally}")?;
+        }
+        for tally in self.all() {
+            tally.show_first(rt)?;
+        }
+        Ok(())
     }
 }
 
-pub fn add(count: &mut usize, more: usize) {
+fn add(count: &mut usize, more: usize) {
     *count = count.saturating_add(more);
 }

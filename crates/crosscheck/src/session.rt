@@ -1,123 +1,92 @@
 // One board on one kind: the same calls on the library, on the flat board, and on the flat board on bits that the values
 // handed in admit in a situation.
 use crate::choice::Standing;
-use crate::kinds::{Kind, any_settled};
-use crate::library::{Lent, any_values, perform, same_levels};
+use crate::kinds::{ColdStart, Kind};
+use crate::library::{LibraryRun, any_values, first};
 use crate::report::{Difference, Tally};
-use crate::view::View;
-use board::Board;
+use crate::view::{Expected, View};
+use board::{Board, Figures};
 use board_maker::dice::Dice;
-use flat_evaluator::calls::{Answer, Call, Room};
+use flat_evaluator::calls::{Answer, Call, Outcome, Room};
 use flat_evaluator::fault::Fault;
 use flat_evaluator::flat::Flat;
 use flat_evaluator::flat_run::FlatRun;
-use flat_evaluator::values::{Situation, Value};
-use run::{Run, power};
-use std::alloc::Global;
+use flat_evaluator::values::Value;
+use run::{CallRefusal, Run, power};
+use std::alloc::{AllocError, Global};
 
-// What to do on a board: so many right steps first, of which only the answers are compared, and then calls of all sorts.
-#[derive(Clone, Copy)]
-pub struct Task {
-    pub board: usize,
-    pub steps: usize,
-    pub calls: usize,
-}
+const CALLS: usize = 60;
 
-// A board as the library has it, and flat.
+// A board as the library has it, and flat, with so many right steps to make first, of which only the answers are compared.
 #[derive(Clone, Copy)]
-pub struct Boards<'b, 'f, 'l> {
+pub struct Task<'b, 'f, 'l> {
+    pub heap: Global,
+    pub number: usize,
     pub board: &'b Board<'f>,
     pub flat: &'l Flat,
+    pub figures: Figures,
+    pub steps: usize,
 }
 
-// The memory that is lent to the library, and the two flat runs.
+impl Task<'_, '_, '_> {
+    pub fn compare<K: Kind>(&self, dice: &mut Dice, tally: &mut Tally) -> Result<(), Fault> {
+        tally.begin(self.number);
+        let mut cells = any_values::<K>(self.heap, dice, self.figures.cells)?;
+        let Ok(run) = power(self.board, cells.as_mut_slice()) else {
+            tally.differ(Difference::Answer);
+            return Ok(());
+        };
+        Session::<K>::new(self, run, dice, tally)?.compare_all()
+    }
+
+    // More of each sort than the board needs, and a tape for some of the cycles.
+    fn any_room(&self, dice: &mut Dice) -> Room {
+        let outputs = self.figures.outputs;
+        let cycles = self.steps.saturating_add(dice.below(CALLS + 1));
+        let rest = dice.below(outputs.saturating_add(1));
+        Room {
+            inputs: self.figures.inputs.saturating_add(2),
+            cells: self.figures.cells.saturating_add(3),
+            tape: cycles.saturating_mul(outputs).saturating_add(rest),
+            values: 1030,
+            levels: 10,
+        }
+    }
+}
+
+// The library's run and the two flat runs, on memory of the lengths that `most` says.
 #[derive(Drop)]
-struct Session<K: Kind> {
-    heap: Global,
+struct Session<'b, 'f, 's, K: Kind> {
+    task: &'s Task<'b, 'f, 's>,
+    dice: &'s mut Dice,
+    tally: &'s mut Tally,
+    most: Room,
     view: View,
-    lent: Lent<K>,
+    library: LibraryRun<'b, 'f, K>,
     wanted: FlatRun<K::Own>,
     bits: FlatRun<bool>,
 }
 
-pub fn compare_runs<K: Kind>(
-    heap: Global,
-    boards: Boards<'_, '_, '_>,
-    dice: &mut Dice,
-    task: &Task,
-    tally: &mut Tally,
-) -> Result<(), Fault> {
-    tally.begin(task.board);
-    let flat = boards.flat;
-    let mut cells = any_values::<K>(heap, dice, flat.cells.len())?;
-    let Ok(mut run) = power(boards.board, cells.as_mut_slice()) else {
-        tally.differ(Difference::Answer);
-        return Ok(());
-    };
-    let most = any_room(dice, flat, task);
-    let mut session = Session::<K>::new(heap, dice, &most)?;
-    let mut standing = Standing {
-        inputs: flat.inputs.len(),
-        outputs: flat.outputs.len(),
-        cells: flat.cells.len(),
-        most,
-        cycle: 0,
-        colds: !session.view.settled && K::blank().is_some(),
-    };
-    session.compare(boards, &mut run, dice, &standing.right_start(), tally)?;
-    let step = standing.right_step();
-    for _ in 0..task.steps {
-        session.call(boards, &mut run, dice, &step, tally)?;
-    }
-    for _ in 0..task.calls {
-        standing.cycle = session.wanted.cycle;
-        let call = standing.any_call(dice);
-        session.compare(boards, &mut run, dice, &call, tally)?;
-    }
-    Ok(())
-}
-
-fn any_view(dice: &mut Dice) -> View {
-    let mut marks = [false; 64];
-    let percent = dice.below(30);
-    for mark in marks.iter_mut() {
-        *mark = dice.chance(percent);
-    }
-    View {
-        situation: Situation {
-            row: dice.below(64),
-            marks,
-        },
-        settled: dice.chance(30),
-    }
-}
-
-// More of each sort than the board needs, and a tape for some of the cycles.
-fn any_room(dice: &mut Dice, flat: &Flat, task: &Task) -> Room {
-    let outputs = flat.outputs.len();
-    let cycles = task
-        .steps
-        .saturating_add(dice.below(task.calls.saturating_add(1)));
-    let rest = dice.below(outputs.saturating_add(1));
-    Room {
-        inputs: flat.inputs.len().saturating_add(2),
-        cells: flat.cells.len().saturating_add(3),
-        tape: cycles.saturating_mul(outputs).saturating_add(rest),
-        values: 1030,
-        levels: 10,
-    }
-}
-
-impl<K: Kind> Session<K> {
-    fn new(heap: Global, dice: &mut Dice, most: &Room) -> Result<Session<K>, Fault> {
-        let view = any_view(dice);
-        let lent = Lent::new(heap, dice, most)?;
+impl<'b, 'f, 's, K: Kind> Session<'b, 'f, 's, K> {
+    fn new(
+        task: &'s Task<'b, 'f, 's>,
+        run: Run<'b, 'f>,
+        dice: &'s mut Dice,
+        tally: &'s mut Tally,
+    ) -> Result<Session<'b, 'f, 's, K>, Fault> {
+        let heap = task.heap;
+        let most = task.any_room(dice);
+        let view = View::any(dice);
+        let library = LibraryRun::new(heap, task.board, run, dice, &most)?;
         Ok(Session {
-            heap,
+            task,
+            dice,
+            tally,
+            most,
             view,
             wanted: FlatRun {
-                cells: own_values(heap, lent.cells.as_slice())?,
-                tape: own_values(heap, lent.tape.as_slice())?,
+                cells: own_values(heap, library.cells.as_slice())?,
+                tape: own_values(heap, library.tape.as_slice())?,
                 cycle: 0,
             },
             bits: FlatRun {
@@ -125,131 +94,141 @@ impl<K: Kind> Session<K> {
                 tape: vec![in heap; false; most.tape]?,
                 cycle: 0,
             },
-            lent,
+            library,
         })
     }
 
-    // The values that a call is handed: a step's inputs, the value to set, or the cells of a cold start.
-    fn handed(&self, dice: &mut Dice, call: &Call) -> Result<Vec<K>, Fault> {
-        let (count, cold) = match call {
-            Call::Step(room) => (room.inputs, false),
-            Call::Set { .. } => (1, false),
-            Call::Cold { cells } => (*cells, true),
-            _ => (0, false),
-        };
-        let mut values = Vec::new(self.heap);
-        for _ in 0..count {
-            values.push(any_value(dice, &self.view, cold))?;
+    // A right start, the right steps of the task, and then calls of all sorts.
+    fn compare_all(&mut self) -> Result<(), Fault> {
+        let start = self.standing().right_start();
+        self.compare(&start)?;
+        let step = self.standing().right_step();
+        for _ in 0..self.task.steps {
+            let _ = self.call(&step)?;
         }
-        Ok(values)
+        for _ in 0..CALLS {
+            let call = self.standing().any_call(self.dice);
+            self.compare(&call)?;
+        }
+        Ok(())
     }
 
-    // The call on all three, whose answers are compared; whether it was refused.
-    fn call<'b, 'f>(
+    fn standing(&self) -> Standing {
+        Standing {
+            figures: self.task.figures,
+            most: self.most,
+            cycle: self.wanted.cycle,
+            colds: !self.view.settled && K::Start::unknown().is_some(),
+        }
+    }
+
+    // The values that a call is handed: a step's inputs, the value to set, or the cells of a cold start.
+    fn handed(&mut self, call: &Call) -> Result<Vec<K>, AllocError> {
+        let heap = self.task.heap;
+        match call {
+            Call::Step(room) => self.view.any_values(heap, self.dice, room.inputs),
+            Call::Set { .. } => self.view.any_values(heap, self.dice, 1),
+            Call::Cold { cells } => {
+                let unknown = K::Start::unknown().unwrap_or(K::low());
+                Ok(vec![in heap; unknown; *cells]?)
+            }
+            _ => Ok(Vec::new(heap)),
+        }
+    }
+
+    // The call on all three, with what they come to compared, and what it is to come to.
+    fn call(&mut self, call: &Call) -> Result<Outcome<K::Own>, Fault> {
+        let heap = self.task.heap;
+        let flat = self.task.flat;
+        let handed = self.handed(call)?;
+        let own = own_values(heap, handed.as_slice())?;
+        let bits = self.view.any_bits(heap, self.dice, own.as_slice())?;
+        let found = self.library.call(call, handed.as_slice());
+        let wanted = self.wanted.call(heap, flat, call, own.as_slice())?;
+        let on_bits = self.bits.call(heap, flat, call, bits.as_slice())?;
+        self.tally.count(call, &wanted);
+        self.compare_outcomes(&found, &wanted, &on_bits)?;
+        Ok(wanted)
+    }
+
+    fn compare_outcomes(
         &mut self,
-        boards: Boards<'b, 'f, '_>,
-        run: &mut Run<'b, 'f>,
-        dice: &mut Dice,
-        call: &Call,
-        tally: &mut Tally,
-    ) -> Result<bool, Fault> {
-        let handed = self.handed(dice, call)?;
-        let own = own_values(self.heap, handed.as_slice())?;
-        let bits = admitted(self.heap, dice, &self.view, own.as_slice())?;
-        let found = perform(boards.board, run, &mut self.lent, call, handed.as_slice());
-        let wanted = self
-            .wanted
-            .call(self.heap, boards.flat, call, own.as_slice())?;
-        let flat = self
-            .bits
-            .call(self.heap, boards.flat, call, bits.as_slice())?;
-        tally.count(call, &wanted);
-        tally.note(
-            &self.view.answer(&found, &wanted, &flat),
-            Difference::Answer,
-        );
-        Ok(matches!(wanted, Answer::Refused(_)))
+        found: &Result<Answer<K>, CallRefusal>,
+        wanted: &Outcome<K::Own>,
+        bits: &Outcome<bool>,
+    ) -> Result<(), AllocError> {
+        let agree = match (found, wanted, bits) {
+            (Ok(Answer::Value(value)), Ok(Answer::Value(own)), Ok(Answer::Value(bit))) => {
+                return self.compare_value(*value, *own, *bit);
+            }
+            (Ok(Answer::Counted(a)), Ok(Answer::Counted(b)), Ok(Answer::Counted(c))) => {
+                a == b && a == c
+            }
+            (Ok(Answer::Done), Ok(Answer::Done), Ok(Answer::Done)) => true,
+            (Err(a), Err(b), Err(c)) => a.number() == *b as u8 && b == c,
+            _ => false,
+        };
+        if !agree {
+            self.tally.differ(Difference::Answer);
+        }
+        Ok(())
+    }
+
+    fn compare_value(&mut self, value: K, wanted: K::Own, bit: bool) -> Result<(), AllocError> {
+        let heap = self.task.heap;
+        let found = vec![in heap; value.own(); 1]?;
+        let wanted = vec![in heap; wanted; 1]?;
+        let expected = Expected {
+            values: wanted.as_slice(),
+            bits: &[bit],
+        };
+        self.tally.compare(&self.view, found.as_slice(), &expected, Difference::Answer);
+        Ok(())
     }
 
     // The call on all three, with all memory compared after it.
-    fn compare<'b, 'f>(
-        &mut self,
-        boards: Boards<'b, 'f, '_>,
-        run: &mut Run<'b, 'f>,
-        dice: &mut Dice,
-        call: &Call,
-        tally: &mut Tally,
-    ) -> Result<(), Fault> {
-        let values = own_values(self.heap, self.lent.values.as_slice())?;
-        let levels = self.lent.levels.iter().copied().collect(self.heap)?;
-        let refused = self.call(boards, run, dice, call, tally)?;
-        self.compare_memory(boards.flat, tally);
+    fn compare(&mut self, call: &Call) -> Result<(), Fault> {
+        let heap = self.task.heap;
+        let values = own_values(heap, self.library.values.as_slice())?;
+        let levels = Vec::from_slice(heap, self.library.levels.as_slice())?;
+        let refused = self.call(call)?.is_err();
+        self.compare_memory()?;
         if refused {
-            let seen = self
-                .view
-                .values(self.lent.values.as_slice(), values.as_slice(), &[]);
-            tally.note(&seen, Difference::Scratch);
-            if !same_levels(self.heap, &self.lent.levels, &levels)? {
-                tally.differ(Difference::Scratch);
+            let found = own_values(heap, self.library.values.as_slice())?;
+            let expected = Expected {
+                values: values.as_slice(),
+                bits: &[],
+            };
+            self.tally.compare(&self.view, found.as_slice(), &expected, Difference::Scratch);
+            if self.library.levels != levels {
+                self.tally.differ(Difference::Scratch);
             }
         }
         Ok(())
     }
 
     // The cells and the tape; those of the board and of the cycles so far admit the bits of the flat run.
-    fn compare_memory(&self, flat: &Flat, tally: &mut Tally) {
-        let cells = self.view.values(
-            self.lent.cells.as_slice(),
-            self.wanted.cells.as_slice(),
-            first(&self.bits.cells, flat.cells.len()),
-        );
-        tally.note(&cells, Difference::Cells);
-        let filled = self.wanted.cycle.saturating_mul(flat.outputs.len());
-        let tape = self.view.values(
-            self.lent.tape.as_slice(),
-            self.wanted.tape.as_slice(),
-            first(&self.bits.tape, filled),
-        );
-        tally.note(&tape, Difference::Tape);
+    fn compare_memory(&mut self) -> Result<(), AllocError> {
+        let heap = self.task.heap;
+        let cells = own_values(heap, self.library.cells.as_slice())?;
+        let expected = Expected {
+            values: self.wanted.cells.as_slice(),
+            bits: first(self.bits.cells.as_slice(), self.task.figures.cells),
+        };
+        self.tally
+            .compare(&self.view, cells.as_slice(), &expected, Difference::Cells);
+        let tape = own_values(heap, self.library.tape.as_slice())?;
+        let filled = self.wanted.cycle.saturating_mul(self.task.figures.outputs);
+        let expected = Expected {
+            values: self.wanted.tape.as_slice(),
+            bits: first(self.bits.tape.as_slice(), filled),
+        };
+        self.tally
+            .compare(&self.view, tape.as_slice(), &expected, Difference::Tape);
+        Ok(())
     }
 }
 
-fn first(bits: &Vec<bool>, count: usize) -> &[bool] {
-    let end = count.min(bits.len());
-    &bits.as_slice()[0..end]
-}
-
-fn any_value<K: Kind>(dice: &mut Dice, view: &View, cold: bool) -> K {
-    match K::blank() {
-        Some(unknown) if cold => unknown,
-        _ if view.settled => any_settled(dice, &view.situation),
-        _ => K::any(dice),
-    }
-}
-
-// A bit for each value, one that it admits.
-fn admitted<V: Value>(
-    heap: Global,
-    dice: &mut Dice,
-    view: &View,
-    values: &[V],
-) -> Result<Vec<bool>, Fault> {
-    let mut bits = Vec::new(heap);
-    for value in values {
-        let bit = dice.chance(50);
-        bits.push(if value.admits(&view.situation, bit) {
-            bit
-        } else {
-            !bit
-        })?;
-    }
-    Ok(bits)
-}
-
-fn own_values<K: Kind>(heap: Global, values: &[K]) -> Result<Vec<K::Own>, Fault> {
-    let mut own = Vec::new(heap);
-    for value in values {
-        own.push(value.own())?;
-    }
-    Ok(own)
+fn own_values<K: Kind>(heap: Global, values: &[K]) -> Result<Vec<K::Own>, AllocError> {
+    values.iter().map(|value| value.own()).collect(heap)
 }

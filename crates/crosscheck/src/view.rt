@@ -1,21 +1,9 @@
-// Values that the library gave back, beside those of the flat run and the bits that they have to admit.
+// Situations in which values are looked at, and what is looked for.
 use crate::kinds::Kind;
-use crate::report::{Seen, add};
-use flat_evaluator::calls::Answer;
+use board_maker::dice::Dice;
 use flat_evaluator::values::{Situation, Value};
-
-const NOTHING: Seen = Seen {
-    differs: false,
-    denies: false,
-    unsettled: false,
-    values: 0,
-    bits: 0,
-};
-
-const DIFFERS: Seen = Seen {
-    differs: true,
-    ..NOTHING
-};
+use std::alloc::{AllocError, Global};
+use std::array;
 
 // The situation in which values are looked at, and whether only values are handed in that are settled there.
 #[derive(Clone, Copy)]
@@ -25,52 +13,85 @@ pub struct View {
 }
 
 impl View {
-    // Each value beside the flat run's; as many as there are bits have to admit them.
-    pub fn values<K: Kind>(&self, found: &[K], wanted: &[K::Own], bits: &[bool]) -> Seen {
-        if found.len() != wanted.len() {
-            return DIFFERS;
+    pub fn any(dice: &mut Dice) -> View {
+        let percent = dice.below(30);
+        let marks = array::from_fn(|_| dice.chance(percent));
+        View {
+            situation: Situation {
+                row: dice.below(64),
+                marks,
+            },
+            settled: dice.chance(30),
         }
-        let mut seen = NOTHING;
-        for (place, (value, own)) in found.iter().zip(wanted.iter()).enumerate() {
-            self.look_at(&mut seen, &value.own(), own, bits.get(place));
-        }
-        seen
     }
 
-    pub fn answer<K: Kind>(
+    // Values that may be handed in.
+    pub fn any_values<K: Kind>(
         &self,
-        found: &Answer<K>,
-        wanted: &Answer<K::Own>,
-        flat: &Answer<bool>,
-    ) -> Seen {
-        let agree = match (found, wanted, flat) {
-            (Answer::Refused(a), Answer::Refused(b), Answer::Refused(c)) => *a == *b && *a == *c,
-            (Answer::Counted(a), Answer::Counted(b), Answer::Counted(c)) => *a == *b && *a == *c,
-            (Answer::Done, Answer::Done, Answer::Done) => true,
-            (Answer::Value(value), Answer::Value(own), Answer::Value(bit)) => {
-                let mut seen = NOTHING;
-                self.look_at(&mut seen, &value.own(), own, Some(bit));
-                return seen;
-            }
-            _ => false,
-        };
-        if agree { NOTHING } else { DIFFERS }
+        heap: Global,
+        dice: &mut Dice,
+        count: usize,
+    ) -> Result<Vec<K>, AllocError> {
+        (0..count).map(|_| self.any_value(dice)).collect(heap)
     }
 
-    fn look_at<V: Value>(&self, seen: &mut Seen, own: &V, wanted: &V, bit: Option<&bool>) {
-        add(&mut seen.values, 1);
-        if !own.same(wanted) {
-            seen.differs = true;
-        }
-        let Some(flat_bit) = bit else {
-            return;
-        };
-        add(&mut seen.bits, 1);
-        if !own.admits(&self.situation, *flat_bit) {
-            seen.denies = true;
-        }
-        if self.settled && !own.is_settled(&self.situation) {
-            seen.unsettled = true;
+    fn any_value<K: Kind>(&self, dice: &mut Dice) -> K {
+        if self.settled {
+            self.any_settled(dice)
+        } else {
+            K::any(dice)
         }
     }
+
+    // A value that is settled in the situation.
+    fn any_settled<K: Kind>(&self, dice: &mut Dice) -> K {
+        (0..20)
+            .map(|_| K::any(dice))
+            .find(|value| value.own().is_settled(&self.situation))
+            .unwrap_or(K::low())
+    }
+
+    // A bit for each value, one that it admits.
+    pub fn any_bits<V: Value>(
+        &self,
+        heap: Global,
+        dice: &mut Dice,
+        values: &[V],
+    ) -> Result<Vec<bool>, AllocError> {
+        values
+            .iter()
+            .map(|value| {
+                let bit = dice.chance(50);
+                if value.admits(&self.situation, bit) {
+                    bit
+                } else {
+                    !bit
+                }
+            })
+            .collect(heap)
+    }
+
+    // Whether a value denies its bit; as many have one as there are bits.
+    pub fn deny<V: Value>(&self, values: &[V], bits: &[bool]) -> bool {
+        values
+            .iter()
+            .zip(bits.iter())
+            .any(|(value, bit)| !value.admits(&self.situation, *bit))
+    }
+
+    // Whether a value that has a bit is not settled though all handed in are.
+    pub fn unsettled<V: Value>(&self, values: &[V], bits: &[bool]) -> bool {
+        self.settled
+            && values
+                .iter()
+                .take(bits.len())
+                .any(|value| !value.is_settled(&self.situation))
+    }
+}
+
+// What values are to be, and the bits that the first ones have to admit.
+#[derive(Clone, Copy)]
+pub struct Expected<'a, V> {
+    pub values: &'a [V],
+    pub bits: &'a [bool],
 }

@@ -12,7 +12,7 @@ pub enum Pass {
 
 // A module's number, the occurrence or the entry of its state list that it stands at, its pass, where its wires begin
 // among the working values, and where its cells begin; in a second pass, the next cell.
-#[derive(Clone, Copy, Debug)]
+#[derive(Clone, Copy, PartialEq, Eq, Debug)]
 pub struct Level {
     pub(crate) number: usize,
     pub(crate) place: usize,
