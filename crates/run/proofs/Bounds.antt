@@ -1,7 +1,5 @@
 -- How many outputs a board can have, and where on the tape they can lie.
-use Rattle.std.proofs.Common.{◌≡◌, ℕ, ◌-◌, ◌*◌, ◌^◌, ◌<◌, ◌≤◌, List, [], ◌∷◌, length, mul-le-mul, arith}
-use mathlib.Core.Logic.{∥∥₁_elim}
-use native.Mathlib.Nat.{ℕ_set}
+use Rattle.std.proofs.Common.{◌≡◌, ℕ, ◌*◌, ◌^◌, ◌<◌, ◌≤◌, List, [], ◌∷◌, length, mul-le-mul, arith}
 use Rattle.rules.specs.Refusals.{accepted}
 use Rattle.rules.specs.Boards.{Module, top, out_wires}
 use Rattle.rules.specs.Records.{records_read}
@@ -20,9 +18,7 @@ of_accepted : (f : List ℕ) → verdict f ≡ accepted → length (out_wires (t
 of_accepted f e = in_range (board_of f) (passes_range f (then_left (records_read f) (modules_judged 0 (units_of f)) e))
 
 pub few_outputs : (b : Board) → length (out_wires (design_in b)) ≤ 16
-few_outputs b =
-    let e : length (out_wires (design_in b)) - 16 ≡ 0 = ∥∥₁_elim b.accepted (ℕ_set _ _) (λ a. let h = of_accepted b.judged.file.now a.verdict_is in omega arith) in
-    omega arith
+few_outputs b = of_accepted b.judged.file.now b.accepted.verdict_is
 
 -- a place on the tape is a small number
 pub small_place : (cycle outs : ℕ) → cycle < 2 ^ 16 → outs ≤ 16 → cycle * outs ≤ 1048560
