@@ -25,14 +25,13 @@ fn agrees(rt: &HostRuntime, name: &str) -> io::Result<bool> {
 
 fn run(rt: &HostRuntime) -> anyhow::Result<()> {
     let names = fs::read_to_string(rt, "names")?;
-    let mut cases = 0u32;
-    let mut mismatches = 0u32;
-    for name in names.as_str().lines() {
-        cases = cases.saturating_add(1);
-        if !agrees(rt, name)? {
-            mismatches = mismatches.saturating_add(1);
-        }
-    }
+    let agreed = names
+        .as_str()
+        .lines()
+        .map(|name| agrees(rt, name))
+        .try_collect::<Vec<bool>>(rt.alloc())?;
+    let cases = agreed.len();
+    let mismatches = agreed.iter().filter(|agrees| !**agrees).count();
     println!(rt; "{cases} cases, {mismatches} mismatches")?;
     Ok(())
 }
