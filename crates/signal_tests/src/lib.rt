@@ -7,9 +7,13 @@ mod tests {
     use signal::levels::Level;
     use signal::marks::Marks;
     use signal::{Signal, WithUnknown, evaluate};
+    use std::alloc::{AllocError, Global};
     use std::process::Abort;
+    use std::test::Fail;
 
     const BITS: [bool; 2] = [false, true];
+
+    const LEVELS: [Level; 3] = [Level::Zero, Level::One, Level::Unknown];
 
     // Each gate with its outputs: bit 4a + 2b + c is the output for the inputs a, b and c.
     const GATES: [(Gate, u8); 11] = [
@@ -33,27 +37,30 @@ mod tests {
         of_c & 1 == 1
     }
 
+    // Three of the values, in each way.
+    fn triples<T: Copy>(heap: Global, values: &[T]) -> Result<Vec<(T, T, T)>, AllocError> {
+        let mut all = Vec::new(heap);
+        for a in values {
+            for b in values {
+                for c in values {
+                    all.push((*a, *b, *c))?;
+                }
+            }
+        }
+        Ok(all)
+    }
+
     #[test]
-    fn bits(rt: HostRuntime) {
-        for entry in &GATES {
-            let (gate, outputs) = *entry;
-            for n in 0..8u8 {
-                let a = n & 4 != 0;
-                let b = n & 2 != 0;
-                let c = n & 1 != 0;
+    fn bits(rt: HostRuntime) -> Result<(), Fail> {
+        let all = triples(rt.alloc(), &BITS)?;
+        for (gate, outputs) in GATES {
+            for (a, b, c) in all.iter().copied() {
                 assert_eq!(rt; evaluate(gate, a, b, c), output(outputs, a, b, c));
             }
         }
         assert_eq!(rt; true.told(), Some(true));
         assert_eq!(rt; false.told(), Some(false));
-    }
-
-    fn level(n: u8) -> Level {
-        match n % 3 {
-            0 => Level::Zero,
-            1 => Level::One,
-            _ => Level::Unknown,
-        }
+        Ok(())
     }
 
     fn can_be(level: Level, bit: bool) -> bool {
@@ -66,20 +73,14 @@ mod tests {
 
     // The level that every filling of the two inputs gives, or else unknown.
     fn filled(outputs: u8, v: Level, w: Level) -> Level {
-        let mut some_low = false;
-        let mut some_high = false;
-        for a in &BITS {
-            for b in &BITS {
-                if can_be(v, *a) && can_be(w, *b) {
-                    if output(outputs, *a, *b, false) {
-                        some_high = true;
-                    } else {
-                        some_low = true;
-                    }
-                }
-            }
-        }
-        match (some_low, some_high) {
+        let some = |bit: bool| {
+            BITS.iter().any(|a| {
+                BITS.iter().any(|b| can_be(v, *a)
+                    && can_be(w, *b)
+                    && output(outputs, *a, *b, false) == bit)
+            })
+        };
+        match (some(false), some(true)) {
             (true, false) => Level::Zero,
             (false, true) => Level::One,
             _ => Level::Unknown,
@@ -96,13 +97,10 @@ mod tests {
     }
 
     #[test]
-    fn levels(rt: HostRuntime) {
-        for entry in &GATES {
-            let (gate, outputs) = *entry;
-            for n in 0..27u8 {
-                let v = level(n / 9);
-                let w = level(n / 3);
-                let x = level(n);
+    fn levels(rt: HostRuntime) -> Result<(), Fail> {
+        let all = triples(rt.alloc(), &LEVELS)?;
+        for (gate, outputs) in GATES {
+            for (v, w, x) in all.iter().copied() {
                 assert_eq!(rt;
                     evaluate(gate, v, w, x),
                     expected_level(gate, outputs, v, w, x)
@@ -112,27 +110,26 @@ mod tests {
         assert_eq!(rt; Level::Zero.told(), Some(false));
         assert_eq!(rt; Level::One.told(), Some(true));
         assert_eq!(rt; Level::Unknown.told(), None);
+        Ok(())
     }
 
     // Numbers that look random: each from the one before, by shifts and exclusive or.
+    // Stays: the program `stepper` draws words in the same way, and a crate for three lines is no plainer.
     fn next(number: u64) -> u64 {
         let a = number ^ (number << 13);
         let b = a ^ (a >> 7);
         b ^ (b << 17)
     }
 
+    fn bit(row: u64, place: u32) -> bool {
+        row.rotate_right(place) & 1 == 1
+    }
+
     // The 64 rows by single bits.
     fn expected_rows(outputs: u8, x: u64, y: u64, z: u64) -> u64 {
-        let mut rows = 0;
-        for r in 0..64u32 {
-            let a = x >> r & 1 == 1;
-            let b = y >> r & 1 == 1;
-            let c = z >> r & 1 == 1;
-            if output(outputs, a, b, c) {
-                rows |= 1 << r;
-            }
-        }
-        rows
+        (0..u64::BITS)
+            .filter(|r| output(outputs, bit(x, *r), bit(y, *r), bit(z, *r)))
+            .fold(0, |rows, r| rows | 1u64.rotate_left(r))
     }
 
     #[test]
@@ -141,13 +138,12 @@ mod tests {
         for _ in 0..20 {
             let y = next(x);
             let z = next(y);
-            for entry in &GATES {
-                let (gate, outputs) = *entry;
+            for (gate, outputs) in GATES {
                 assert_eq!(rt; evaluate(gate, x, y, z), expected_rows(outputs, x, y, z));
             }
             x = next(z);
         }
-        for r in 0..64u32 {
+        for r in 0..u64::BITS {
             let one: u64 = 1 << r;
             assert_eq!(rt; one.told(), None);
             assert_eq!(rt; (!one).told(), None);
@@ -179,8 +175,7 @@ mod tests {
             let p = next(z);
             let q = next(p);
             let r = next(q);
-            for entry in &GATES {
-                let (gate, outputs) = *entry;
+            for (gate, outputs) in GATES {
                 let result = evaluate(gate, marked(x, p), marked(y, q), marked(z, r));
                 assert_eq!(rt; result.below, expected_rows(outputs, x, y, z));
                 assert_eq!(rt; result.marks, expected_marks(gate, p, q, r));
@@ -193,13 +188,10 @@ mod tests {
     }
 
     #[test]
-    fn marks_over_marks_over_levels(rt: HostRuntime) {
-        for entry in &GATES {
-            let (gate, outputs) = *entry;
-            for n in 0..27u8 {
-                let v = level(n / 9);
-                let w = level(n / 3);
-                let x = level(n);
+    fn marks_over_marks_over_levels(rt: HostRuntime) -> Result<(), Fail> {
+        let all = triples(rt.alloc(), &LEVELS)?;
+        for (gate, outputs) in GATES {
+            for (v, w, x) in all.iter().copied() {
                 let a = marked(marked(v, 1), 8);
                 let b = marked(marked(w, 2), 16);
                 let c = marked(marked(x, 4), 32);
@@ -213,13 +205,11 @@ mod tests {
         assert_eq!(rt; marked(marked(Level::One, 0), 8).told(), None);
         assert_eq!(rt; marked(marked(Level::One, 8), 0).told(), None);
         assert_eq!(rt; marked(marked(Level::Unknown, 0), 0).told(), None);
+        Ok(())
     }
 
     fn untold<K: WithUnknown>() -> bool {
-        match K::unknown().told() {
-            Some(_) => false,
-            None => true,
-        }
+        K::unknown().told().is_none()
     }
 
     #[test]
