@@ -1,5 +1,6 @@
 -- What the bytes of an accepted file say of its board's modules and occurrences.
-use Rattle.std.proofs.Common.{◌≡◌, ℕ, ◌+◌, ◌-◌, ◌*◌, ◌<◌, ◌≤◌, true, List, [], ◌∷◌, ◌++◌, length, get_or, take, drop, is_some, Some, None, Option, sym, refl, ap, ◌∙◌, subst, ap₂, arith, length-append, length-drop}
+use Rattle.std.proofs.Common.{◌≡◌, ℕ, ◌+◌, ◌-◌, ◌*◌, ◌<◌, ◌≤◌, true, List, [], ◌∷◌, ◌++◌, length, get_or, take, drop, is_some, Some, None, Option, slice_index, sym, refl, ap, ◌∙◌, subst, ap₂, arith, length-append, length-drop}
+use Rattle.std.specs.Int.{w16, from_le_bytes}
 use Rattle.std.proofs.lemmas.List.{get_or-drop, drop-drop, drop_at, take_at, append_assoc}
 use Rattle.gates.specs.declared.Part.{Part}
 use Rattle.gates.specs.Gates.{part_of}
@@ -17,6 +18,8 @@ use Rattle.flat.proofs.Lists.{refer_at}
 use Rattle.board.specs.declared.lent.Tables.{Tables}
 use Rattle.board.specs.declared.layout.ModuleRecords.{ModuleRecords}
 use Rattle.board.specs.Lent.{board_in, behind, RecordsOf, Right}
+use Rattle.walk.specs.declared.reading.Module.{Module as Read}
+use Rattle.walk.specs.Levels.{module_in}
 
 byte_at : (f : List ℕ) (s j : ℕ) (xs : List ℕ) → drop s f ≡ xs → get_or f (s + j) 0 ≡ get_or xs j 0
 byte_at f s j xs e = sym (get_or-drop s f j 0) ∙ ap (λ x. get_or x j 0) e
@@ -177,3 +180,25 @@ module _ (t : Tables) (right : Right t) where
         ins_are = ap (λ n. take n (drop (p + 8) f)) n₁ ∙ b.ins_are;
         outs_are = ap₂ (λ n a. take n (drop a f)) n₂ a₂ ∙ b.outs_are;
       })
+
+-- the same of a module that is read
+module _ (m : Read) where
+  pub few_modules : m.number < 64
+  few_modules = omega (arith, (range m.tables m.right).few, m.there)
+
+  pub few_occurrences : length (module_in m.tables m.number).occurrences ≤ 64
+  few_occurrences = ((range m.tables m.right).each m.number m.there).occurrences
+
+  pub lists : (r : ModuleRecords) → RecordsOf (board_in m.tables) m.number r → ListsLie m.tables m.right m.number r
+  lists = lists_lie m.tables m.right m.number m.there
+
+  module _ (i : ℕ) (l : i < length (module_in m.tables m.number).occurrences) where
+    pub here : (r : ModuleRecords) → RecordsOf (board_in m.tables) m.number r → OccurrenceLies m.tables m.right m.number i (slice_index r.occurrences.starts i)
+    here r e = occurrence_lies m.tables m.right m.number m.there i l _ (e.starts i l)
+
+    pub refers : is_some (part (occurrence_no (module_in m.tables m.number) i)) ≡ true
+    refers = known m.tables m.right m.number m.there i l
+
+-- a reference number's two bytes
+pub two_bytes : (a b : ℕ) → from_le_bytes w16 (a ∷ b ∷ []) ≡ a + 256 * b
+two_bytes a b = omega arith

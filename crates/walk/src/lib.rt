@@ -11,7 +11,7 @@ mod windows;
 
 use board::Board;
 pub use level::{Level, Pass};
-use reading::{output_wires, records};
+use reading::Module;
 use signal::Signal;
 use stack::turn;
 use windows::{deliver, open_top};
@@ -64,7 +64,8 @@ pub fn walk<K: Signal>(
         return None;
     }
     let tables = board.tables();
-    open_top(work, inputs, records(tables, 0).counts.wires as usize);
+    let top = Module { tables, number: 0 };
+    open_top(work, inputs, top.records().counts.wires as usize);
     levels[0] = Level::new();
     let mut depth = 1;
     let mut count = 0;
@@ -73,6 +74,6 @@ pub fn walk<K: Signal>(
         depth = next;
         count = total;
     }
-    deliver(work, output_wires(tables, 0), outputs);
+    deliver(work, top.output_wires(), outputs);
     Some(count)
 }

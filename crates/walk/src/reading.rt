@@ -23,63 +23,76 @@ pub(crate) struct Child<'b> {
     pub(crate) cell: usize,
 }
 
-// The records of a module.
-pub(crate) fn records<'b>(tables: Tables<'b>, number: usize) -> &'b ModuleRecords
-    requires right { Right tables }
-    requires number { number < length (board_in tables) }
-    ensures { RecordsOf (board_in tables.entry) number result.now }
-{
-    &tables.modules[number]
+// A module of a board: the board's tables, and the module's number in them.
+#[derive(Clone, Copy)]
+pub(crate) struct Module<'b> {
+    pub(crate) tables: Tables<'b>,
+    pub(crate) number: usize,
+    ghost right: { Right tables },
+    ghost there: { number < length (board_in tables) },
 }
 
-// Where the cells of an occurrence begin among its module's.
-pub(crate) fn first_cell(tables: Tables, number: usize, i: usize) -> usize
-    requires right { Right tables }
-    requires number { number < length (board_in tables) }
-    requires within { i < length (module_in tables number).occurrences }
-    ensures { result ≡ cells_ahead (board_in tables.entry) number i }
-{
-    tables.starts[number][i] as usize
-}
-
-pub(crate) fn read_occurrence<'b>(tables: Tables<'b>, number: usize, i: usize) -> Occurrence<'b>
-    requires right { Right tables }
-    requires number { number < length (board_in tables) }
-    requires within { i < length (module_in tables number).occurrences }
-    ensures part { part_in (use_in tables.entry number i) ≡ Some result.part }
-    ensures ins { result.ins.now ≡ (use_in tables.entry number i).ins }
-    ensures outs { result.outs.now ≡ (use_in tables.entry number i).outs }
-{
-    let at = records(tables, number).occurrences.starts[i] as usize;
-    let reference = tables.file[at + 4] as u16 + 256 * (tables.file[at + 5] as u16);
-    let part = Part::of_reference(reference).unwrap();
-    let middle = at + 8 + tables.file[at + 6] as usize;
-    let end = middle + tables.file[at + 7] as usize;
-    Occurrence {
-        part,
-        ins: &tables.file[at + 8..middle],
-        outs: &tables.file[middle..end],
+impl<'b> Module<'b> {
+    // Another module of the same board.
+    pub(crate) fn other(self, number: usize) -> Module<'b>
+        requires { number < length (board_in self.tables) }
+        ensures tables { result.tables ≡ self.entry.tables }
+        ensures number { result.number ≡ number }
+    {
+        Module {
+            tables: self.tables,
+            number,
+        }
     }
-}
 
-pub(crate) fn output_wires<'b>(tables: Tables<'b>, number: usize) -> &'b [u8]
-    requires right { Right tables }
-    requires number { number < length (board_in tables) }
-    ensures { result.now ≡ (module_in tables.entry number).outs }
-{
-    let records = records(tables, number);
-    let start = records.place + 9;
-    let end = start + records.counts.outputs as usize;
-    &tables.file[start..end]
-}
+    pub(crate) fn records(self) -> &'b ModuleRecords
+        ensures { RecordsOf (board_in self.entry.tables) self.entry.number result.now }
+    {
+        &self.tables.modules[self.number]
+    }
 
-pub(crate) fn state_list<'b>(tables: Tables<'b>, number: usize) -> &'b [u8]
-    requires right { Right tables }
-    requires number { number < length (board_in tables) }
-    ensures { result.now ≡ (module_in tables.entry number).states }
-{
-    let records = records(tables, number);
-    let start = records.place + 9 + records.counts.outputs as usize;
-    let end = start + records.counts.states as usize;
-    &tables.file[start..end]
+    // Where the cells of an occurrence begin among the module's.
+    pub(crate) fn first_cell(self, i: usize) -> usize
+        requires { i < length (module_in self.tables self.number).occurrences }
+        ensures { result ≡ cells_ahead (board_in self.entry.tables) self.entry.number i }
+    {
+        self.tables.starts[self.number][i] as usize
+    }
+
+    pub(crate) fn occurrence(self, i: usize) -> Occurrence<'b>
+        requires { i < length (module_in self.tables self.number).occurrences }
+        ensures part { part_in (use_in self.entry.tables self.entry.number i) ≡ Some result.part }
+        ensures ins { result.ins.now ≡ (use_in self.entry.tables self.entry.number i).ins }
+        ensures outs { result.outs.now ≡ (use_in self.entry.tables self.entry.number i).outs }
+    {
+        let file = self.tables.file;
+        let at = self.records().occurrences.starts[i] as usize;
+        let reference = u16::from_le_bytes([file[at + 4], file[at + 5]]);
+        let part = Part::of_reference(reference).unwrap();
+        let middle = at + 8 + file[at + 6] as usize;
+        let end = middle + file[at + 7] as usize;
+        Occurrence {
+            part,
+            ins: &file[at + 8..middle],
+            outs: &file[middle..end],
+        }
+    }
+
+    pub(crate) fn output_wires(self) -> &'b [u8]
+        ensures { result.now ≡ (module_in self.entry.tables self.entry.number).outs }
+    {
+        let records = self.records();
+        let start = records.place + 9;
+        let end = start + records.counts.outputs as usize;
+        &self.tables.file[start..end]
+    }
+
+    pub(crate) fn state_list(self) -> &'b [u8]
+        ensures { result.now ≡ (module_in self.entry.tables self.entry.number).states }
+    {
+        let records = self.records();
+        let start = records.place + 9 + records.counts.outputs as usize;
+        let end = start + records.counts.states as usize;
+        &self.tables.file[start..end]
+    }
 }

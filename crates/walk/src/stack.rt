@@ -8,7 +8,7 @@ ghost use Rattle.walk.specs.Shown.{State, Later, After, StopFirst, StopSecond};
 ghost use Rattle.walk.specs.declared.level.Pass.TheVariants.{Storing};
 
 use crate::level::{Level, Pass};
-use crate::reading::{Child, first_cell, output_wires, read_occurrence, records, state_list};
+use crate::reading::{Child, Module};
 use crate::windows::{gate_output, hand_up, open};
 use board::Tables;
 use gates::Part;
@@ -38,20 +38,21 @@ fn settle<'b, K: Signal>(
     let number = levels[top].number;
     let base = levels[top].base;
     let first = levels[top].cell;
-    let places = records(tables, number).counts.occurrences as usize;
+    let module = Module { tables, number };
+    let places = module.records().counts.occurrences as usize;
     let mut place = levels[top].place;
     let mut total = count;
     while place < places {
-        let o = read_occurrence(tables, number, place);
+        let o = module.occurrence(place);
         let value = match o.part {
             Part::Gate(gate) => {
                 total += 1;
                 gate_output(gate, o.ins, &work[base..])
             }
-            Part::Cell => cells[first + first_cell(tables, number, place)],
+            Part::Cell => cells[first + module.first_cell(place)],
             Part::Module(child) => {
                 levels[top].place = place;
-                let cell = first + first_cell(tables, number, place);
+                let cell = first + module.first_cell(place);
                 let child = Child {
                     number: child,
                     ins: o.ins,
@@ -88,11 +89,12 @@ fn store<'b, K: Signal>(
 {
     let number = levels[top].number;
     let base = levels[top].base;
-    let states = state_list(tables, number);
+    let module = Module { tables, number };
+    let states = module.state_list();
     let mut place = levels[top].place;
     let mut cell = levels[top].cell;
     while place < states.len() {
-        let o = read_occurrence(tables, number, states[place] as usize);
+        let o = module.occurrence(states[place] as usize);
         if let Part::Module(child) = o.part {
             levels[top].place = place;
             levels[top].cell = cell;
@@ -129,8 +131,12 @@ fn enter<K: Signal>(
     ensures levels { levels.new ≡ slice_set levels.old (top + 1) (child_level (board_in tables.entry) (level_at levels.old top) child.entry.number pass child.entry.cell) }
 {
     let base = levels[top].base;
-    let start = base + records(tables, levels[top].number).counts.wires as usize;
-    let wires = records(tables, child.number).counts.wires as usize;
+    let module = Module {
+        tables,
+        number: levels[top].number,
+    };
+    let start = base + module.records().counts.wires as usize;
+    let wires = module.other(child.number).records().counts.wires as usize;
     open(work, base, child.ins, start, wires);
     levels[top + 1] = Level {
         number: child.number,
@@ -152,8 +158,12 @@ fn leave<K: Signal>(tables: Tables, work: &mut [K], levels: &mut [Level], top: u
 {
     let up = top - 1;
     let place = levels[up].place;
-    let outs = output_wires(tables, levels[top].number);
-    let pins = read_occurrence(tables, levels[up].number, place).outs;
+    let module = Module {
+        tables,
+        number: levels[top].number,
+    };
+    let outs = module.output_wires();
+    let pins = module.other(levels[up].number).occurrence(place).outs;
     hand_up(work, levels[top].base, outs, levels[up].base, pins);
     levels[up].place = place + 1;
 }

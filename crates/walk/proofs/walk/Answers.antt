@@ -7,10 +7,10 @@ use Rattle.walk.proofs.Sim.{level_same}
 use Rattle.walk.proofs.LoopStates.{fitting, some, inputs_wired, wires_few, outputs_many, outputs_low, first_machine, first_result, few_gates, first_state, by_last, fewer_left, same_result, halted_gives}
 use Rattle.walk.proofs.walk.Goals as goal
 
-pub records-requires : goal.records-requires
-records-requires g c =
+pub invariant_of-top : goal.invariant_of-top
+invariant_of-top g c =
     let t = c.tables-tables in
-    record { right = t.ensures.right; number = some t.result t.ensures.right c.args.board.now t.ensures.file }
+    record { right = t.ensures.right; there = some t.result t.ensures.right c.args.board.now t.ensures.file }
 
 pub open_top-requires : goal.open_top-requires
 open_top-requires g c =
@@ -66,11 +66,6 @@ loop-depth-preserved g c =
     let board = board_in c.tables-tables.result in
     let i = c.loop-depth.invariant in
     same_result K board i.0 (step_of K (design_in c.args.board.now) c.args.inputs.now c.args.cells.now) i.2 (c.turn-next.ensures i.0 (by_last K board c.loop-depth-test.true i.1))
-
-pub output_wires-requires : goal.output_wires-requires
-output_wires-requires g c =
-    let t = c.tables-tables in
-    record { right = t.ensures.right; number = some t.result t.ensures.right c.args.board.now t.ensures.file }
 
 pub deliver-requires : goal.deliver-requires
 deliver-requires g c =

@@ -1,9 +1,12 @@
-use Rattle.std.proofs.Common.{◌+◌, ◌≤◌, length, arith, rules}
-use Rattle.walk.specs.Levels.{level_at}
+use Rattle.std.proofs.Common.{◌+◌, ◌≤◌, length, ◌∙◌, ap₂, arith, rules}
+use Rattle.walk.specs.Levels.{level_at, module_in}
 use Rattle.walk.proofs.stack.enter.Goals as goal
 
-pub records-requires : goal.records-requires
-records-requires g c = record { right = c.requires.right; number = c.requires.enterable.number }
+pub invariant_of-module : goal.invariant_of-module
+invariant_of-module g c = record { right = c.requires.right; there = c.requires.enterable.number }
+
+pub other-requires : goal.other-requires
+other-requires g c = c.requires.enterable.child
 
 pub overflow_add-start : goal.overflow_add-start
 overflow_add-start g c =
@@ -14,7 +17,7 @@ pub open-requires : goal.open-requires
 open-requires g c =
     let e = c.requires.enterable in
     let a = c.records.ensures.wires in
-    let b = c.records-2.ensures.wires in
+    let b = c.records-2.ensures.wires ∙ ap₂ (λ t k. (module_in t k).wires) c.other.ensures.tables c.other.ensures.number in
     record {
       fits = omega (arith, e.fits, a, b);
       few = omega (arith, e.few, b);

@@ -1,19 +1,19 @@
 use Rattle.std.proofs.Common.{ℕ, ◌+◌, ◌-◌, ◌<◌, List, map, length, get_or, sym, refl, ap, ◌∙◌, subst, ap₂, rules}
 use Rattle.flat.specs.Windows.{writes}
-use Rattle.walk.specs.Levels.{level_at}
+use Rattle.walk.specs.Levels.{level_at, use_in}
 use Rattle.walk.proofs.stack.leave.Goals as goal
 
-pub output_wires-outs-requires : goal.output_wires-outs-requires
-output_wires-outs-requires g c = record { right = c.requires.right; number = c.requires.leavable.number }
+pub invariant_of-module : goal.invariant_of-module
+invariant_of-module g c = record { right = c.requires.right; there = c.requires.leavable.number }
 
-pub read_occurrence-requires : goal.read_occurrence-requires
-read_occurrence-requires g c = record { right = c.requires.right; number = c.requires.leavable.above; within = c.requires.leavable.place }
+pub other-requires : goal.other-requires
+other-requires g c = c.requires.leavable.above
 
 pub hand_up-requires : goal.hand_up-requires
 hand_up-requires g c =
     let v = c.requires.leavable in
     let a = c.output_wires-outs.ensures in
-    let b = c.read_occurrence.ensures.outs in
+    let b = c.occurrence.ensures.outs ∙ ap₂ (λ t k. (use_in t k (level_at c.args.levels.now (c.args.top - 1)).place).outs) c.other.ensures.tables c.other.ensures.number in
     let base = (level_at c.args.levels.now c.args.top).base in
     let to = (level_at c.args.levels.now (c.args.top - 1)).base in
     record {
@@ -32,6 +32,6 @@ returns g c =
     let base = (level_at c.args.levels.now c.args.top).base in
     let to = (level_at c.args.levels.now (c.args.top - 1)).base in
     record {
-      work = c.hand_up.ensures ∙ ap₂ (λ (is os : List ℕ). writes K to is (map (λ w. get_or ws (base + w) K.low) os) ws) c.read_occurrence.ensures.outs c.output_wires-outs.ensures;
+      work = c.hand_up.ensures ∙ ap₂ (λ (is os : List ℕ). writes K to is (map (λ w. get_or ws (base + w) K.low) os) ws) (c.occurrence.ensures.outs ∙ ap₂ (λ t k. (use_in t k (level_at c.args.levels.now (c.args.top - 1)).place).outs) c.other.ensures.tables c.other.ensures.number) c.output_wires-outs.ensures;
       levels = refl;
     }

@@ -26,13 +26,13 @@ pub gate_output-value-requires : goal.gate_output-value-requires
 gate_output-value-requires g c =
     let t = c.requires.shown in
     let n = c.loop-place.invariant.1 t.0 t.1 in
-    Settles.ins_there g.K.Signal.kind c.args.tables c.requires.right c.args.cells.now c.loop-place.work c.args.levels.now c.args.top c.loop-place.total c.loop-place.place c.requires.many (let q : 1024 ≤ length c.loop-place.work = omega arith in q) c.requires.level c.requires.pass (let q : c.loop-place.place < length (module_of_level (board_in c.args.tables) (level_at c.args.levels.now c.args.top)).occurrences = omega (arith, c.loop-place-test.true, c.records.ensures.occurrences) in q) n.0 n.1 c.read_occurrence-o.result.ins.now c.read_occurrence-o.ensures.ins
+    Settles.ins_there g.K.Signal.kind c.args.tables c.requires.right c.args.cells.now c.loop-place.work c.args.levels.now c.args.top c.loop-place.total c.loop-place.place c.requires.many (let q : 1024 ≤ length c.loop-place.work = omega arith in q) c.requires.level c.requires.pass (let q : c.loop-place.place < length (module_of_level (board_in c.args.tables) (level_at c.args.levels.now c.args.top)).occurrences = omega (arith, c.loop-place-test.true, c.records.ensures.occurrences) in q) n.0 n.1 c.occurrence-o.result.ins.now c.occurrence-o.ensures.ins
 
 pub overflow_add-value : goal.overflow_add-value
 overflow_add-value g c =
     let t = c.requires.shown in
     let n = c.loop-place.invariant.1 t.0 t.1 in
-    let h = Settles.cell_there g.K.Signal.kind c.args.tables c.requires.right c.args.cells.now c.loop-place.work c.args.levels.now c.args.top c.loop-place.total c.loop-place.place c.requires.many (let q : 1024 ≤ length c.loop-place.work = omega arith in q) c.requires.level c.requires.pass (let q : c.loop-place.place < length (module_of_level (board_in c.args.tables) (level_at c.args.levels.now c.args.top)).occurrences = omega (arith, c.loop-place-test.true, c.records.ensures.occurrences) in q) n.0 n.1 (c.read_occurrence-o.ensures.part ∙ ap Some c.in-Cell.is) in
+    let h = Settles.cell_there g.K.Signal.kind c.args.tables c.requires.right c.args.cells.now c.loop-place.work c.args.levels.now c.args.top c.loop-place.total c.loop-place.place c.requires.many (let q : 1024 ≤ length c.loop-place.work = omega arith in q) c.requires.level c.requires.pass (let q : c.loop-place.place < length (module_of_level (board_in c.args.tables) (level_at c.args.levels.now c.args.top)).occurrences = omega (arith, c.loop-place-test.true, c.records.ensures.occurrences) in q) n.0 n.1 (c.occurrence-o.ensures.part ∙ ap Some c.in-Cell.is) in
     let e = c.first_cell.ensures in
     let l : (level_at c.args.levels.now c.args.top).cell + c.first_cell.result < length c.args.cells.now = omega arith in search rules
 
@@ -40,7 +40,7 @@ pub offset_bounds-cells-first : goal.offset_bounds-cells-first
 offset_bounds-cells-first g c =
     let t = c.requires.shown in
     let n = c.loop-place.invariant.1 t.0 t.1 in
-    let h = Settles.cell_there g.K.Signal.kind c.args.tables c.requires.right c.args.cells.now c.loop-place.work c.args.levels.now c.args.top c.loop-place.total c.loop-place.place c.requires.many (let q : 1024 ≤ length c.loop-place.work = omega arith in q) c.requires.level c.requires.pass (let q : c.loop-place.place < length (module_of_level (board_in c.args.tables) (level_at c.args.levels.now c.args.top)).occurrences = omega (arith, c.loop-place-test.true, c.records.ensures.occurrences) in q) n.0 n.1 (c.read_occurrence-o.ensures.part ∙ ap Some c.in-Cell.is) in
+    let h = Settles.cell_there g.K.Signal.kind c.args.tables c.requires.right c.args.cells.now c.loop-place.work c.args.levels.now c.args.top c.loop-place.total c.loop-place.place c.requires.many (let q : 1024 ≤ length c.loop-place.work = omega arith in q) c.requires.level c.requires.pass (let q : c.loop-place.place < length (module_of_level (board_in c.args.tables) (level_at c.args.levels.now c.args.top)).occurrences = omega (arith, c.loop-place-test.true, c.records.ensures.occurrences) in q) n.0 n.1 (c.occurrence-o.ensures.part ∙ ap Some c.in-Cell.is) in
     let e = c.first_cell.ensures in
     omega arith
 
@@ -48,7 +48,7 @@ pub bounds-cells-first : goal.bounds-cells-first
 bounds-cells-first g c =
     let t = c.requires.shown in
     let n = c.loop-place.invariant.1 t.0 t.1 in
-    let h = Settles.cell_there g.K.Signal.kind c.args.tables c.requires.right c.args.cells.now c.loop-place.work c.args.levels.now c.args.top c.loop-place.total c.loop-place.place c.requires.many (let q : 1024 ≤ length c.loop-place.work = omega arith in q) c.requires.level c.requires.pass (let q : c.loop-place.place < length (module_of_level (board_in c.args.tables) (level_at c.args.levels.now c.args.top)).occurrences = omega (arith, c.loop-place-test.true, c.records.ensures.occurrences) in q) n.0 n.1 (c.read_occurrence-o.ensures.part ∙ ap Some c.in-Cell.is) in
+    let h = Settles.cell_there g.K.Signal.kind c.args.tables c.requires.right c.args.cells.now c.loop-place.work c.args.levels.now c.args.top c.loop-place.total c.loop-place.place c.requires.many (let q : 1024 ≤ length c.loop-place.work = omega arith in q) c.requires.level c.requires.pass (let q : c.loop-place.place < length (module_of_level (board_in c.args.tables) (level_at c.args.levels.now c.args.top)).occurrences = omega (arith, c.loop-place-test.true, c.records.ensures.occurrences) in q) n.0 n.1 (c.occurrence-o.ensures.part ∙ ap Some c.in-Cell.is) in
     let e = c.first_cell.ensures in
     omega arith
 
@@ -73,8 +73,8 @@ returns-in-Module g c =
     record {
       levels = placed_is L ls e top place c.requires.level;
       stop =
-          subst (λ (z : Level). StopFirst board z (Some (record { number = c.in-Module.child; ins = c.read_occurrence-o.result.ins; cell = (level_at ls top).cell + c.first_cell-in-Module.result }))) (sym (placed_at L ls e top place c.requires.level))
-          (record { within = w; part_is = c.read_occurrence-o.ensures.part ∙ ap Some c.in-Module.is; ins_are = c.read_occurrence-o.ensures.ins }, ap (λ n. (level_at ls top).cell + n) c.first_cell-in-Module.ensures);
+          subst (λ (z : Level). StopFirst board z (Some (record { number = c.in-Module.child; ins = c.occurrence-o.result.ins; cell = (level_at ls top).cell + c.first_cell-in-Module.result }))) (sym (placed_at L ls e top place c.requires.level))
+          (record { within = w; part_is = c.occurrence-o.ensures.part ∙ ap Some c.in-Module.is; ins_are = c.occurrence-o.ensures.ins }, ap (λ n. (level_at ls top).cell + n) c.first_cell-in-Module.ensures);
       runs = λ M s.
           let n = c.loop-place.invariant.1 M s in
           (n.0, subst (λ y. State g.K.Signal.kind board c.args.cells.now c.loop-place.work (set y top (placed (level_at y top) place)) (top + 1) c.loop-place.total n.0) (sym e) n.1, n.2, n.3);
@@ -86,11 +86,11 @@ bounds-o-0 g c =
     let n = c.loop-place.invariant.1 t.0 t.1 in
     let l : length (occurrence_no (module_of_level (board_in c.args.tables) (level_at c.args.levels.now c.args.top)) c.loop-place.place).outs ≡ 1 =
     (elim c.match-o.branch [
-      | in-Gate w ↦ Settles.lone_gate g.K.Signal.kind c.args.tables c.requires.right c.args.cells.now c.loop-place.work c.args.levels.now c.args.top c.loop-place.total c.loop-place.place c.requires.many (let q : 1024 ≤ length c.loop-place.work = omega arith in q) c.requires.level c.requires.pass (let q : c.loop-place.place < length (module_of_level (board_in c.args.tables) (level_at c.args.levels.now c.args.top)).occurrences = omega (arith, c.loop-place-test.true, c.records.ensures.occurrences) in q) n.0 n.1 w.in-Gate.gate (c.read_occurrence-o.ensures.part ∙ ap Some w.in-Gate.is)
-      | in-Cell w ↦ Settles.lone_cell g.K.Signal.kind c.args.tables c.requires.right c.args.cells.now c.loop-place.work c.args.levels.now c.args.top c.loop-place.total c.loop-place.place c.requires.many (let q : 1024 ≤ length c.loop-place.work = omega arith in q) c.requires.level c.requires.pass (let q : c.loop-place.place < length (module_of_level (board_in c.args.tables) (level_at c.args.levels.now c.args.top)).occurrences = omega (arith, c.loop-place-test.true, c.records.ensures.occurrences) in q) n.0 n.1 (c.read_occurrence-o.ensures.part ∙ ap Some w.in-Cell.is)
+      | in-Gate w ↦ Settles.lone_gate g.K.Signal.kind c.args.tables c.requires.right c.args.cells.now c.loop-place.work c.args.levels.now c.args.top c.loop-place.total c.loop-place.place c.requires.many (let q : 1024 ≤ length c.loop-place.work = omega arith in q) c.requires.level c.requires.pass (let q : c.loop-place.place < length (module_of_level (board_in c.args.tables) (level_at c.args.levels.now c.args.top)).occurrences = omega (arith, c.loop-place-test.true, c.records.ensures.occurrences) in q) n.0 n.1 w.in-Gate.gate (c.occurrence-o.ensures.part ∙ ap Some w.in-Gate.is)
+      | in-Cell w ↦ Settles.lone_cell g.K.Signal.kind c.args.tables c.requires.right c.args.cells.now c.loop-place.work c.args.levels.now c.args.top c.loop-place.total c.loop-place.place c.requires.many (let q : 1024 ≤ length c.loop-place.work = omega arith in q) c.requires.level c.requires.pass (let q : c.loop-place.place < length (module_of_level (board_in c.args.tables) (level_at c.args.levels.now c.args.top)).occurrences = omega (arith, c.loop-place-test.true, c.records.ensures.occurrences) in q) n.0 n.1 (c.occurrence-o.ensures.part ∙ ap Some w.in-Cell.is)
     ]) in
-    let e = ap length c.read_occurrence-o.ensures.outs in
-    let h : 0 < length c.read_occurrence-o.result.outs.now = omega arith in
+    let e = ap length c.occurrence-o.ensures.outs in
+    let h : 0 < length c.occurrence-o.result.outs.now = omega arith in
     search rules
 
 pub offset_bounds-work-base-in-loop-place : goal.offset_bounds-work-base-in-loop-place
@@ -99,10 +99,10 @@ offset_bounds-work-base-in-loop-place g c =
     let n = c.loop-place.invariant.1 t.0 t.1 in
     let l : length (occurrence_no (module_of_level (board_in c.args.tables) (level_at c.args.levels.now c.args.top)) c.loop-place.place).outs ≡ 1 =
     (elim c.match-o.branch [
-      | in-Gate w ↦ Settles.lone_gate g.K.Signal.kind c.args.tables c.requires.right c.args.cells.now c.loop-place.work c.args.levels.now c.args.top c.loop-place.total c.loop-place.place c.requires.many (let q : 1024 ≤ length c.loop-place.work = omega arith in q) c.requires.level c.requires.pass (let q : c.loop-place.place < length (module_of_level (board_in c.args.tables) (level_at c.args.levels.now c.args.top)).occurrences = omega (arith, c.loop-place-test.true, c.records.ensures.occurrences) in q) n.0 n.1 w.in-Gate.gate (c.read_occurrence-o.ensures.part ∙ ap Some w.in-Gate.is)
-      | in-Cell w ↦ Settles.lone_cell g.K.Signal.kind c.args.tables c.requires.right c.args.cells.now c.loop-place.work c.args.levels.now c.args.top c.loop-place.total c.loop-place.place c.requires.many (let q : 1024 ≤ length c.loop-place.work = omega arith in q) c.requires.level c.requires.pass (let q : c.loop-place.place < length (module_of_level (board_in c.args.tables) (level_at c.args.levels.now c.args.top)).occurrences = omega (arith, c.loop-place-test.true, c.records.ensures.occurrences) in q) n.0 n.1 (c.read_occurrence-o.ensures.part ∙ ap Some w.in-Cell.is)
+      | in-Gate w ↦ Settles.lone_gate g.K.Signal.kind c.args.tables c.requires.right c.args.cells.now c.loop-place.work c.args.levels.now c.args.top c.loop-place.total c.loop-place.place c.requires.many (let q : 1024 ≤ length c.loop-place.work = omega arith in q) c.requires.level c.requires.pass (let q : c.loop-place.place < length (module_of_level (board_in c.args.tables) (level_at c.args.levels.now c.args.top)).occurrences = omega (arith, c.loop-place-test.true, c.records.ensures.occurrences) in q) n.0 n.1 w.in-Gate.gate (c.occurrence-o.ensures.part ∙ ap Some w.in-Gate.is)
+      | in-Cell w ↦ Settles.lone_cell g.K.Signal.kind c.args.tables c.requires.right c.args.cells.now c.loop-place.work c.args.levels.now c.args.top c.loop-place.total c.loop-place.place c.requires.many (let q : 1024 ≤ length c.loop-place.work = omega arith in q) c.requires.level c.requires.pass (let q : c.loop-place.place < length (module_of_level (board_in c.args.tables) (level_at c.args.levels.now c.args.top)).occurrences = omega (arith, c.loop-place-test.true, c.records.ensures.occurrences) in q) n.0 n.1 (c.occurrence-o.ensures.part ∙ ap Some w.in-Cell.is)
     ]) in
-    let h = Settles.out_there g.K.Signal.kind c.args.tables c.requires.right c.args.cells.now c.loop-place.work c.args.levels.now c.args.top c.loop-place.total c.loop-place.place c.requires.many (let q : 1024 ≤ length c.loop-place.work = omega arith in q) c.requires.level c.requires.pass (let q : c.loop-place.place < length (module_of_level (board_in c.args.tables) (level_at c.args.levels.now c.args.top)).occurrences = omega (arith, c.loop-place-test.true, c.records.ensures.occurrences) in q) n.0 n.1 l c.read_occurrence-o.result.outs.now c.read_occurrence-o.ensures.outs in
+    let h = Settles.out_there g.K.Signal.kind c.args.tables c.requires.right c.args.cells.now c.loop-place.work c.args.levels.now c.args.top c.loop-place.total c.loop-place.place c.requires.many (let q : 1024 ≤ length c.loop-place.work = omega arith in q) c.requires.level c.requires.pass (let q : c.loop-place.place < length (module_of_level (board_in c.args.tables) (level_at c.args.levels.now c.args.top)).occurrences = omega (arith, c.loop-place-test.true, c.records.ensures.occurrences) in q) n.0 n.1 l c.occurrence-o.result.outs.now c.occurrence-o.ensures.outs in
     search rules
 
 pub bounds-work-base : goal.bounds-work-base
@@ -111,10 +111,10 @@ bounds-work-base g c =
     let n = c.loop-place.invariant.1 t.0 t.1 in
     let l : length (occurrence_no (module_of_level (board_in c.args.tables) (level_at c.args.levels.now c.args.top)) c.loop-place.place).outs ≡ 1 =
     (elim c.match-o.branch [
-      | in-Gate w ↦ Settles.lone_gate g.K.Signal.kind c.args.tables c.requires.right c.args.cells.now c.loop-place.work c.args.levels.now c.args.top c.loop-place.total c.loop-place.place c.requires.many (let q : 1024 ≤ length c.loop-place.work = omega arith in q) c.requires.level c.requires.pass (let q : c.loop-place.place < length (module_of_level (board_in c.args.tables) (level_at c.args.levels.now c.args.top)).occurrences = omega (arith, c.loop-place-test.true, c.records.ensures.occurrences) in q) n.0 n.1 w.in-Gate.gate (c.read_occurrence-o.ensures.part ∙ ap Some w.in-Gate.is)
-      | in-Cell w ↦ Settles.lone_cell g.K.Signal.kind c.args.tables c.requires.right c.args.cells.now c.loop-place.work c.args.levels.now c.args.top c.loop-place.total c.loop-place.place c.requires.many (let q : 1024 ≤ length c.loop-place.work = omega arith in q) c.requires.level c.requires.pass (let q : c.loop-place.place < length (module_of_level (board_in c.args.tables) (level_at c.args.levels.now c.args.top)).occurrences = omega (arith, c.loop-place-test.true, c.records.ensures.occurrences) in q) n.0 n.1 (c.read_occurrence-o.ensures.part ∙ ap Some w.in-Cell.is)
+      | in-Gate w ↦ Settles.lone_gate g.K.Signal.kind c.args.tables c.requires.right c.args.cells.now c.loop-place.work c.args.levels.now c.args.top c.loop-place.total c.loop-place.place c.requires.many (let q : 1024 ≤ length c.loop-place.work = omega arith in q) c.requires.level c.requires.pass (let q : c.loop-place.place < length (module_of_level (board_in c.args.tables) (level_at c.args.levels.now c.args.top)).occurrences = omega (arith, c.loop-place-test.true, c.records.ensures.occurrences) in q) n.0 n.1 w.in-Gate.gate (c.occurrence-o.ensures.part ∙ ap Some w.in-Gate.is)
+      | in-Cell w ↦ Settles.lone_cell g.K.Signal.kind c.args.tables c.requires.right c.args.cells.now c.loop-place.work c.args.levels.now c.args.top c.loop-place.total c.loop-place.place c.requires.many (let q : 1024 ≤ length c.loop-place.work = omega arith in q) c.requires.level c.requires.pass (let q : c.loop-place.place < length (module_of_level (board_in c.args.tables) (level_at c.args.levels.now c.args.top)).occurrences = omega (arith, c.loop-place-test.true, c.records.ensures.occurrences) in q) n.0 n.1 (c.occurrence-o.ensures.part ∙ ap Some w.in-Cell.is)
     ]) in
-    let h = Settles.out_there g.K.Signal.kind c.args.tables c.requires.right c.args.cells.now c.loop-place.work c.args.levels.now c.args.top c.loop-place.total c.loop-place.place c.requires.many (let q : 1024 ≤ length c.loop-place.work = omega arith in q) c.requires.level c.requires.pass (let q : c.loop-place.place < length (module_of_level (board_in c.args.tables) (level_at c.args.levels.now c.args.top)).occurrences = omega (arith, c.loop-place-test.true, c.records.ensures.occurrences) in q) n.0 n.1 l c.read_occurrence-o.result.outs.now c.read_occurrence-o.ensures.outs in
+    let h = Settles.out_there g.K.Signal.kind c.args.tables c.requires.right c.args.cells.now c.loop-place.work c.args.levels.now c.args.top c.loop-place.total c.loop-place.place c.requires.many (let q : 1024 ≤ length c.loop-place.work = omega arith in q) c.requires.level c.requires.pass (let q : c.loop-place.place < length (module_of_level (board_in c.args.tables) (level_at c.args.levels.now c.args.top)).occurrences = omega (arith, c.loop-place-test.true, c.records.ensures.occurrences) in q) n.0 n.1 l c.occurrence-o.result.outs.now c.occurrence-o.ensures.outs in
     h
 
 pub loop-place-preserved : goal.loop-place-preserved
@@ -124,7 +124,7 @@ loop-place-preserved g c = (
       let K = g.K.Signal.kind in
       let board = board_in c.args.tables in
       let n = c.loop-place.invariant.1 M s in
-      let o = c.read_occurrence-o in
+      let o = c.occurrence-o in
       let b = level_at c.args.levels.now c.args.top in
       let cs = c.args.cells.now in
       let ws = set c.loop-place.work (b.base + get_or o.result.outs.now 0 0) c.match-o.value in

@@ -24,12 +24,12 @@ pub loop-place-init : goal.loop-place-init
 loop-place-init g c =
     (refl, λ M count s. (M, subst (λ y. State g.K.Signal.kind (board_in c.args.tables) c.args.cells.now c.args.work.now y (c.args.top + 1) count M) (sym (set-get_or c.args.levels.now c.args.top no_level)) s, refl, omega arith))
 
-pub read_occurrence-o-requires : goal.read_occurrence-o-requires
-read_occurrence-o-requires g c =
+pub occurrence-o-requires : goal.occurrence-o-requires
+occurrence-o-requires g c =
     let number = (level_at c.args.levels.now c.args.top).number in
     let e = ap (λ (x : List ℕ). get_or x c.loop-place.place 0) c.state_list-states.ensures in
     let w = Modules.entry_within (board_in c.args.tables) (λ k h. (Bytes.keeps c.args.tables c.requires.right k h).sound) number c.requires.number c.loop-place.place (let q : c.loop-place.place < length (module_of_level (board_in c.args.tables) (level_at c.args.levels.now c.args.top)).states = omega (arith, c.loop-place-test.true, ap length c.state_list-states.ensures) in q) in
-    record { right = c.requires.right; number = c.requires.number; within = omega arith }
+    omega arith
 
 pub bounds-o-0 : goal.bounds-o-0
 bounds-o-0 g c =
@@ -37,7 +37,7 @@ bounds-o-0 g c =
     let n = c.loop-place.invariant.1 t.0 t.1 t.2 in
     let m = module_of_level (board_in c.args.tables) (level_at c.args.levels.now c.args.top) in
     let st = ap (λ (x : List ℕ). occurrence_no m (get_or x c.loop-place.place 0)) c.state_list-states.ensures in
-    let o = c.read_occurrence-o in
+    let o = c.occurrence-o in
     let ec : part (occurrence_no m (get_or m.states c.loop-place.place 0)) ≡ Some cell =
     ap part (sym st) ∙ o.ensures.part ∙ ap Some (cell_left o.result.part c.in_default.not-Module (λ gt e. Modules.entry_no_gate (board_in c.args.tables) (λ k h. (Bytes.keeps c.args.tables c.requires.right k h).sound) (level_at c.args.levels.now c.args.top).number c.requires.number c.loop-place.place (let q : c.loop-place.place < length (module_of_level (board_in c.args.tables) (level_at c.args.levels.now c.args.top)).states = omega (arith, c.loop-place-test.true, ap length c.state_list-states.ensures) in q) gt (ap part (sym st) ∙ o.ensures.part ∙ ap Some e))) in
     let ins = o.ensures.ins ∙ ap (λ x. x.ins) st in
@@ -51,7 +51,7 @@ offset_bounds-work-base g c =
     let n = c.loop-place.invariant.1 t.0 t.1 t.2 in
     let m = module_of_level (board_in c.args.tables) (level_at c.args.levels.now c.args.top) in
     let st = ap (λ (x : List ℕ). occurrence_no m (get_or x c.loop-place.place 0)) c.state_list-states.ensures in
-    let o = c.read_occurrence-o in
+    let o = c.occurrence-o in
     let ec : part (occurrence_no m (get_or m.states c.loop-place.place 0)) ≡ Some cell =
     ap part (sym st) ∙ o.ensures.part ∙ ap Some (cell_left o.result.part c.in_default.not-Module (λ gt e. Modules.entry_no_gate (board_in c.args.tables) (λ k h. (Bytes.keeps c.args.tables c.requires.right k h).sound) (level_at c.args.levels.now c.args.top).number c.requires.number c.loop-place.place (let q : c.loop-place.place < length (module_of_level (board_in c.args.tables) (level_at c.args.levels.now c.args.top)).states = omega (arith, c.loop-place-test.true, ap length c.state_list-states.ensures) in q) gt (ap part (sym st) ∙ o.ensures.part ∙ ap Some e))) in
     let ins = o.ensures.ins ∙ ap (λ x. x.ins) st in
@@ -65,7 +65,7 @@ bounds-work-base g c =
     let n = c.loop-place.invariant.1 t.0 t.1 t.2 in
     let m = module_of_level (board_in c.args.tables) (level_at c.args.levels.now c.args.top) in
     let st = ap (λ (x : List ℕ). occurrence_no m (get_or x c.loop-place.place 0)) c.state_list-states.ensures in
-    let o = c.read_occurrence-o in
+    let o = c.occurrence-o in
     let ec : part (occurrence_no m (get_or m.states c.loop-place.place 0)) ≡ Some cell =
     ap part (sym st) ∙ o.ensures.part ∙ ap Some (cell_left o.result.part c.in_default.not-Module (λ gt e. Modules.entry_no_gate (board_in c.args.tables) (λ k h. (Bytes.keeps c.args.tables c.requires.right k h).sound) (level_at c.args.levels.now c.args.top).number c.requires.number c.loop-place.place (let q : c.loop-place.place < length (module_of_level (board_in c.args.tables) (level_at c.args.levels.now c.args.top)).states = omega (arith, c.loop-place-test.true, ap length c.state_list-states.ensures) in q) gt (ap part (sym st) ∙ o.ensures.part ∙ ap Some e))) in
     let ins = o.ensures.ins ∙ ap (λ x. x.ins) st in
@@ -79,7 +79,7 @@ offset_bounds-cells-cell g c =
     let n = c.loop-place.invariant.1 t.0 t.1 t.2 in
     let m = module_of_level (board_in c.args.tables) (level_at c.args.levels.now c.args.top) in
     let st = ap (λ (x : List ℕ). occurrence_no m (get_or x c.loop-place.place 0)) c.state_list-states.ensures in
-    let o = c.read_occurrence-o in
+    let o = c.occurrence-o in
     let ec : part (occurrence_no m (get_or m.states c.loop-place.place 0)) ≡ Some cell =
     ap part (sym st) ∙ o.ensures.part ∙ ap Some (cell_left o.result.part c.in_default.not-Module (λ gt e. Modules.entry_no_gate (board_in c.args.tables) (λ k h. (Bytes.keeps c.args.tables c.requires.right k h).sound) (level_at c.args.levels.now c.args.top).number c.requires.number c.loop-place.place (let q : c.loop-place.place < length (module_of_level (board_in c.args.tables) (level_at c.args.levels.now c.args.top)).states = omega (arith, c.loop-place-test.true, ap length c.state_list-states.ensures) in q) gt (ap part (sym st) ∙ o.ensures.part ∙ ap Some e))) in
     let ins = o.ensures.ins ∙ ap (λ x. x.ins) st in
@@ -93,7 +93,7 @@ bounds-cells-cell g c =
     let n = c.loop-place.invariant.1 t.0 t.1 t.2 in
     let m = module_of_level (board_in c.args.tables) (level_at c.args.levels.now c.args.top) in
     let st = ap (λ (x : List ℕ). occurrence_no m (get_or x c.loop-place.place 0)) c.state_list-states.ensures in
-    let o = c.read_occurrence-o in
+    let o = c.occurrence-o in
     let ec : part (occurrence_no m (get_or m.states c.loop-place.place 0)) ≡ Some cell =
     ap part (sym st) ∙ o.ensures.part ∙ ap Some (cell_left o.result.part c.in_default.not-Module (λ gt e. Modules.entry_no_gate (board_in c.args.tables) (λ k h. (Bytes.keeps c.args.tables c.requires.right k h).sound) (level_at c.args.levels.now c.args.top).number c.requires.number c.loop-place.place (let q : c.loop-place.place < length (module_of_level (board_in c.args.tables) (level_at c.args.levels.now c.args.top)).states = omega (arith, c.loop-place-test.true, ap length c.state_list-states.ensures) in q) gt (ap part (sym st) ∙ o.ensures.part ∙ ap Some e))) in
     let ins = o.ensures.ins ∙ ap (λ x. x.ins) st in
@@ -106,7 +106,7 @@ overflow_add-cell g c =
     let n = c.loop-place.invariant.1 t.0 t.1 t.2 in
     let m = module_of_level (board_in c.args.tables) (level_at c.args.levels.now c.args.top) in
     let st = ap (λ (x : List ℕ). occurrence_no m (get_or x c.loop-place.place 0)) c.state_list-states.ensures in
-    let o = c.read_occurrence-o in
+    let o = c.occurrence-o in
     let ec : part (occurrence_no m (get_or m.states c.loop-place.place 0)) ≡ Some cell =
     ap part (sym st) ∙ o.ensures.part ∙ ap Some (cell_left o.result.part c.in_default.not-Module (λ gt e. Modules.entry_no_gate (board_in c.args.tables) (λ k h. (Bytes.keeps c.args.tables c.requires.right k h).sound) (level_at c.args.levels.now c.args.top).number c.requires.number c.loop-place.place (let q : c.loop-place.place < length (module_of_level (board_in c.args.tables) (level_at c.args.levels.now c.args.top)).states = omega (arith, c.loop-place-test.true, ap length c.state_list-states.ensures) in q) gt (ap part (sym st) ∙ o.ensures.part ∙ ap Some e))) in
     let ins = o.ensures.ins ∙ ap (λ x. x.ins) st in
@@ -118,7 +118,7 @@ pub loop-place-preserved : goal.loop-place-preserved
 loop-place-preserved g c =
     let m = module_of_level (board_in c.args.tables) (level_at c.args.levels.now c.args.top) in
     let st = ap (λ (x : List ℕ). occurrence_no m (get_or x c.loop-place.place 0)) c.state_list-states.ensures in
-    let o = c.read_occurrence-o in
+    let o = c.occurrence-o in
     let ec : part (occurrence_no m (get_or m.states c.loop-place.place 0)) ≡ Some cell =
     ap part (sym st) ∙ o.ensures.part ∙ ap Some (cell_left o.result.part c.in_default.not-Module (λ gt e. Modules.entry_no_gate (board_in c.args.tables) (λ k h. (Bytes.keeps c.args.tables c.requires.right k h).sound) (level_at c.args.levels.now c.args.top).number c.requires.number c.loop-place.place (let q : c.loop-place.place < length (module_of_level (board_in c.args.tables) (level_at c.args.levels.now c.args.top)).states = omega (arith, c.loop-place-test.true, ap length c.state_list-states.ensures) in q) gt (ap part (sym st) ∙ o.ensures.part ∙ ap Some e))) in
     let ins = o.ensures.ins ∙ ap (λ x. x.ins) st in (
@@ -147,7 +147,7 @@ returns-in-Module g c =
     let m = module_of_level board (level_at ls top) in
     let at = twice_at L ls e top place from c.requires.level in
     let st = ap (λ (x : List ℕ). occurrence_no m (get_or x place 0)) c.state_list-states.ensures in
-    let o = c.read_occurrence-o in
+    let o = c.occurrence-o in
     let w : place < length m.states = omega (arith, c.loop-place-test.true, ap length c.state_list-states.ensures) in
     record {
       levels = twice_is L ls e top place from c.requires.level ∙ sym (ap (λ (z : Level). set ls top (advanced (level_at ls top) z.place z.cell)) at);
