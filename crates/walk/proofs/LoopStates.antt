@@ -1,6 +1,6 @@
 -- A step's start, its turns and its end: the machine that begins the step is shown, and one that has halted gives what the
 -- step gives.
-use Rattle.std.proofs.Common.{◌≡◌, ℕ, ◌+◌, ◌-◌, ◌<◌, ◌≤◌, Bool, true, eqb, leb, List, [], map, length, get_or, sym, refl, ap, ◌∙◌, subst, arith}
+use Rattle.std.proofs.Common.{◌≡◌, ℕ, ◌+◌, ◌<◌, ◌≤◌, Bool, true, eqb, leb, List, [], map, length, get_or, sym, refl, ap, ◌∙◌, subst, arith, ap₂}
 use Rattle.std.proofs.lemmas.Bool.{and_parts, eqb-true, leb-true}
 use Rattle.signal.specs.Kinds.{Kind}
 use Rattle.rules.specs.Boards.{Module, Design, node, top, in_count, out_wires, module_number, cells}
@@ -17,8 +17,10 @@ use Rattle.board.specs.declared.board.Board.{Board}
 use Rattle.board.specs.declared.lent.Tables.{Tables}
 use Rattle.board.specs.Lent.{board_in, behind, Right}
 use Rattle.walk.specs.declared.level.Level.{Level}
-use Rattle.walk.specs.Levels.{no_level, level_at}
-use Rattle.walk.specs.Shown.{ShowsLevel, State, After, left}
+use Rattle.walk.specs.declared.stack.Walk.{Walk}
+use Rattle.walk.specs.Levels.{no_level, level_at, module_in}
+use Rattle.walk.specs.Shown.{ShowsLevel, State, left}
+use Rattle.walk.specs.Walks.{ShownBy, AfterBy}
 use Rattle.walk.specs.Steps.{design_in, fits_board, Step}
 use Rattle.walk.proofs.Bytes.{range, keeps}
 use Rattle.walk.proofs.Measure.{left_is}
@@ -114,30 +116,26 @@ module _ (t : Tables) (right : Right t) (b : Board) (file_is : t.file.now ≡ b.
           order = (lc' ∙ cells_by_states m below kept.sound, tt);
         }
 
--- A turn
+-- A turn leaves fewer ticks
+pub fewer_left : {V : Type 0} (K : Kind V) (v w : Walk V) (M : Machine V) → ShownBy K v M → AfterBy K w M → left (board_in w.top.tables) w.levels.now w.depth < left (board_in v.top.tables) v.levels.now v.depth
+fewer_left K v w M s x =
+    let a = left_is K (board_in v.top.tables) v.cells.now v.work.now v.levels.now v.depth v.count M s in
+    let b = left_is K (board_in w.top.tables) w.cells.now w.work.now w.levels.now w.depth w.count x.0 x.1 in
+    let f = x.3 in
+    omega arith
 
-module _ {V : Type 0} (K : Kind V) (board : List Module) {held work : List V} {ls : List Level} {depth count : ℕ} where
-  -- the levels by the number of the last one
-  pub by_last : {M : Machine V} → 0 < depth → State K board held work ls depth count M → State K board held work ls (depth - 1 + 1) count M
-  by_last {M} h s = let e : depth ≡ depth - 1 + 1 = omega arith in subst (λ k. State K board held work ls k count M) e s
-
-  -- one with fewer ticks left
-  pub fewer_left : (M : Machine V) → State K board held work ls depth count M → {held' work' : List V} {ls' : List Level} {depth' count' : ℕ} → After K board held' work' ls' depth' count' M → left board ls' depth' < left board ls depth
-  fewer_left M s {held'} {work'} {ls'} {depth'} {count'} x =
-      let a = left_is K board held work ls depth count M s in
-      let b = left_is K board held' work' ls' depth' count' x.0 x.1 in
-      let f = x.3 in
-      omega arith
-
-  pub same_result : (M : Machine V) (r : Stepped V) → result K M ≡ r → After K board held work ls depth count M → (N : Machine V) × State K board held work ls depth count N × (result K N ≡ r)
-  same_result M r e x = (x.0, x.1, x.2 ∙ e)
-
-  -- a machine with no level left has halted
-  pub halted_gives : (M : Machine V) → State K board held work ls depth count M → depth ≤ 0 → (d : Design) (ins cs : List V) → result K M ≡ step_of K d ins cs → {outputs' : List V} → outputs' ≡ map (λ w. get_or work w K.low) (module_number board 0).outs → Step K d ins cs outputs' held count
-  halted_gives (busy f fs n) s h d ins cs e o = let q = s.frames.0 in let z : ⊥ = omega arith in absurd z
-  halted_gives (halted r) s h d ins cs e o =
+-- a walk with no level left shows a machine that has halted
+module _ {V : Type 0} (K : Kind V) (w : Walk V) where
+  halted_step : (M : Machine V) → ShownBy K w M → w.depth ≡ 0 → (d : Design) (ins cs : List V) → result K M ≡ step_of K d ins cs → {outputs' : List V} → outputs' ≡ map (λ i. get_or w.work.now i K.low) (module_in w.top.tables 0).outs → Step K d ins cs outputs' w.cells.now w.count
+  halted_step (busy f fs n) s h d ins cs e o = let q = s.frames.0 in let z : ⊥ = omega arith in absurd z
+  halted_step (halted r) s h d ins cs e o =
       record {
         outputs = o ∙ sym s.frames.2 ∙ ap (λ (x : Stepped V). x.outs) e;
         cells = sym s.row ∙ ap (λ (x : Stepped V). x.cells) e;
         count = sym s.frames.1 ∙ ap (λ (x : Stepped V). x.count) e;
       }
+
+  pub halted_gives : (M : Machine V) → ShownBy K w M → w.depth ≡ 0 → (d : Design) (ins cs : List V) → result K M ≡ step_of K d ins cs → {outputs' work held : List V} {outs : List ℕ} → outputs' ≡ map (λ i. get_or work i K.low) outs → outs ≡ (module_in w.top.tables 0).outs → work ≡ w.work.now → held ≡ w.cells.now → Step K d ins cs outputs' held w.count
+  halted_gives M s h d ins cs e {outputs'} o eo ew eh =
+      subst (λ (x : List V). Step K d ins cs outputs' x w.count) (sym eh)
+      (halted_step M s h d ins cs e (o ∙ ap₂ (λ (x : List V) (y : List ℕ). map (λ i. get_or x i K.low) y) ew eo))

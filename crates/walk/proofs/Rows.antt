@@ -10,13 +10,13 @@ use Rattle.walk.specs.declared.level.Pass.TheVariants.{ForOutputs, ForBoth, Stor
 use Rattle.walk.specs.Levels.{level_at}
 use Rattle.walk.specs.Shown.{Holds, Waits, Stands, Does, Stack}
 
-outputs_both : ForOutputs ≡ ForBoth → ⊥
+pub outputs_both : ForOutputs ≡ ForBoth → ⊥
 outputs_both e = let z : ◌≡◌ {A = ℕ} 0 1 = cc in omega arith
 
-outputs_storing : ForOutputs ≡ Storing → ⊥
+pub outputs_storing : ForOutputs ≡ Storing → ⊥
 outputs_storing e = let z : ◌≡◌ {A = ℕ} 0 1 = cc in omega arith
 
-both_storing : ForBoth ≡ Storing → ⊥
+pub both_storing : ForBoth ≡ Storing → ⊥
 both_storing e = let z : ◌≡◌ {A = ℕ} 0 1 = cc in omega arith
 
 -- What a level is doing, by its pass

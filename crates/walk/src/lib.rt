@@ -13,7 +13,6 @@ use board::Board;
 pub use level::{Level, Pass};
 use reading::Module;
 use signal::Signal;
-use stack::turn;
 use windows::{deliver, open_top};
 
 // How many working values and level records are enough for any board.
@@ -63,17 +62,22 @@ pub fn walk<K: Signal>(
     ) {
         return None;
     }
-    let tables = board.tables();
-    let top = Module { tables, number: 0 };
+    let top = Module {
+        tables: board.tables(),
+        number: 0,
+    };
     open_top(work, inputs, top.records().counts.wires as usize);
     levels[0] = Level::new();
-    let mut depth = 1;
-    let mut count = 0;
-    while depth > 0 {
-        let (next, total) = turn(tables, cells, work, levels, depth - 1, count);
-        depth = next;
-        count = total;
-    }
+    let mut under_way = stack::Walk {
+        top,
+        cells: &mut *cells,
+        work: &mut *work,
+        levels: &mut *levels,
+        depth: 1,
+        count: 0,
+    };
+    under_way.run();
+    let count = under_way.count;
     deliver(work, top.output_wires(), outputs);
     Some(count)
 }
