@@ -13,7 +13,7 @@ pub struct Summary {
 }
 
 // A file with its records, what was found of its modules, and where the cells of each occurrence begin among its module's.
-// Stays: three arrays with one count, since a board lends the records, and the cells' places, each as an array of its own.
+// Stays: three arrays by module, since all records are read before the last module is judged: entries of one array would be half filled until then.
 #[derive(Drop)]
 pub struct Judged<'f> {
     pub(crate) file: &'f [u8],

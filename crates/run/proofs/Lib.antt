@@ -1,4 +1,3 @@
-mod Fills
 pub mod Starts
 mod Bounds
 pub mod Tapes

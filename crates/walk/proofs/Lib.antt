@@ -1,3 +1,4 @@
+pub mod Fills
 pub mod Values
 pub mod Bytes
 pub mod Modules

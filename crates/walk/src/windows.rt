@@ -29,13 +29,11 @@ pub(crate) fn gate_output<K: Signal>(gate: Gate, ins: &[u8], wires: &[K]) -> K
     signal::evaluate(gate, a, b, c)
 }
 
-// Stays: `wires.fill(K::low())` requires a clone that cannot fail, which `Signal` does not promise of a kind.
 fn lower<K: Signal>(wires: &mut [K])
     ensures { wires.new ≡ map (λ _. K.Signal.kind.low) wires.old }
 {
-    for wire in wires.iter_mut() {
-        *wire = K::low();
-    }
+    let low = K::low();
+    wires.fill_with(|| low);
 }
 
 // The window of a module at its start: its inputs from its parent's wires, and low behind them.

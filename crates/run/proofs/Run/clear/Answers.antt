@@ -1,5 +1,5 @@
 use Rattle.std.proofs.Common.{rules}
-use Rattle.run.proofs.Fills.{all_filled}
+use Rattle.walk.proofs.Fills.{all_filled}
 use Rattle.run.proofs.Run.clear.Goals as goal
 
 pub returns-clause-clear : goal.returns-clause-clear

@@ -1,11 +1,12 @@
-use Rattle.std.proofs.Common.{rules}
-use Rattle.std.proofs.lemmas.List.{take_all, drop_all}
-use Rattle.std.proofs.lemmas.List.Edits.{map_over_more}
+use Rattle.std.proofs.Common.{length, refl, ◌∙◌, rules}
+use Rattle.std.proofs.lemmas.Simd.{splat_is_map}
+use Rattle.walk.proofs.Fills.{all_filled}
 use Rattle.walk.proofs.windows.lower.Goals as goal
 
-pub loop-wire-preserved : goal.loop-wire-preserved
-loop-wire-preserved g c =
-    rw c.low.ensures (map_over_more (λ _. g.K.Signal.kind.low) _ _ c.loop-wire.wire-index c.wire-item.result c.loop-wire-test.true c.loop-wire.invariant c.wire-item.is)
-
 pub returns : goal.returns
-returns g c = search (rules, take_all, drop_all)
+returns g c =
+    let f = c.fill_with.ensures in
+    let ws = c.args.wires.now in
+    all_filled _ _ c.low-low.result (λ x q s. search rules) ws c.fill_with.new.self f.ran.0 f.len f.ran.1
+    ∙ splat_is_map ws (length ws) c.low-low.result refl
+    ∙ rw c.low-low.ensures refl
