@@ -1,7 +1,7 @@
 // Takes numbers and blocks from the front of some bytes.
 use crate::fault::Fault;
 
-// Stays: the flat evaluator has a reader of its own, since it is to share no code, and the two have one method in common.
+// Stays: the flat evaluator has a reader of its own, since it is to share no code.
 #[derive(Drop)]
 pub struct Reader<'a> {
     rest: &'a [u8],
