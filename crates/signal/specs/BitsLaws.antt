@@ -3,13 +3,13 @@ use Rattle.std.specs.Prelude.{◌≡◌, Bool, cond, not, ◌&&◌, ◌||◌, �
 use Rattle.std.proofs.Common.{ap}
 use Rattle.signal.specs.Kinds.{Lawful, Situation, differ, Settled, Only}
 use Rattle.signal.specs.Bits.{bits}
-use Rattle.signal.specs.Situations.{row_0, beq_self, beq_not, beq_is, none_otherwise}
+use Rattle.signal.specs.Situations.{row_0, same_some, beq_self, beq_not, beq_is, none_otherwise}
 
 settled : (v : Bool) (s : Situation) → Settled bits v s
 settled v s = (v, (beq_self v, beq_not v))
 
 told_bit : (v b : Bool) → (Some v ≡ Some b) ↔ ((s : Situation) → Only bits v s b)
-told_bit v b = (λ e s. let p : v ≡ b = cc in rw p (beq_self b, beq_not b), λ h. ap Some (beq_is v b (h row_0).0))
+told_bit v b = (λ e s. rw (same_some v b e) (beq_self b, beq_not b), λ h. ap Some (beq_is v b (h row_0).0))
 
 pub bits_lawful : Lawful bits
 bits_lawful = record {

@@ -7,7 +7,7 @@ use Rattle.signal.specs.declared.marks.Marks.{Marks}
 use Rattle.signal.specs.Kinds.{Kind, Lawful, Situation, differ, Settled, Only, Admits, AdmitsBoth, Follows2, Follows3, Settles2, Settles3}
 use Rattle.signal.specs.Sets.{has, some_below, meets}
 use Rattle.signal.specs.Marked.{marked, with_marks, united}
-use Rattle.signal.specs.Situations.{not_both, all_marks, none_otherwise}
+use Rattle.signal.specs.Situations.{not_both, never_some, all_marks, none_otherwise}
 use Rattle.signal.specs.Numbers.{has_or, none, none_at, none_all}
 
 -- a set of marks meets a union if it meets one of the two
@@ -127,7 +127,7 @@ module _ {V : Type 0} (k : Kind V) (law : Lawful k) where
       (law.pick_settles s v.below w.below x.below p.1 q.1 r.1)
 
   told_cases : (v : Marks V) (b x : Bool) → some_below 64 (has v.marks) ≡ x → (cond x None (k.told v.below) ≡ Some b) ↔ ((s : Situation) → Only (marked k) v s b)
-  told_cases v b true e = (λ t. cc, λ h. not_both (sym (met v.below v.marks all_marks (not b) (meets_all v.marks e)) ∙ (h all_marks).1))
+  told_cases v b true e = (λ t. never_some b t, λ h. not_both (sym (met v.below v.marks all_marks (not b) (meets_all v.marks e)) ∙ (h all_marks).1))
   told_cases v b false e = (
     λ t s. only_same v s b (meets_empty s.marks v.marks e) ((law.told_bit v.below b).0 t s),
     λ h. (law.told_bit v.below b).1 (λ s. only_below v s b (meets_empty s.marks v.marks e) (h s)),

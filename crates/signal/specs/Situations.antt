@@ -20,6 +20,12 @@ row_0 = at_row 0 (lit< tt)
 abbrev pub all_marks : Situation
 all_marks = record { row = 0; row_small = lit< tt; marks = λ m. nat_lt m 64; marks_small = λ m e. ltb-true m 64 e }
 
+pub same_some : (a b : Bool) → Some a ≡ Some b → a ≡ b
+same_some a b e = cc
+
+pub never_some : {A : Type 0} (b : Bool) → None ≡ Some b → A
+never_some b e = cc
+
 pub beq_self : (a : Bool) → beq a a ≡ true
 beq_self a = grind arith
 
