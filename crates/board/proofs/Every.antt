@@ -1,20 +1,11 @@
 -- Tests of each number below a bound, and the entries of a state list.
-use Rattle.std.proofs.Common.{◌≡◌, ℕ, zero, suc, ◌+◌, ◌<◌, Bool, cond, ◌&&◌, eqb, List, [], ◌∷◌, length, get_or, drop, refl, ap, ◌∙◌, suc-le-suc, arith}
-use Rattle.std.proofs.lemmas.List.{at_drop_more}
-use Rattle.std.proofs.lemmas.Bool.{eq-eqb, ne_eqb}
+use Rattle.std.proofs.Common.{◌≡◌, ℕ, zero, suc, ◌+◌, ◌<◌, Bool, cond, ◌&&◌, eqb, List, [], ◌∷◌, length, get_or, refl, ap, ◌∙◌, suc-le-suc, arith}
 use Rattle.rules.specs.Wires.{every}
 use Rattle.rules.specs.Boards.{ahead}
 
 pub every_same : (n : ℕ) (f g : ℕ → Bool) → ((j : ℕ) → j < n → f j ≡ g j) → every n f ≡ every n g
 every_same zero f g h = refl
 every_same (suc n) f g h = ap (λ b. b && every n (λ i. f (suc i))) (h 0 (omega arith)) ∙ ap (λ b. g 0 && b) (every_same n (λ i. f (suc i)) (λ i. g (suc i)) (λ j l. h (suc j) (suc-le-suc l)))
-
-module _ (size : ℕ → ℕ) (i : ℕ) (xs : List ℕ) (k : ℕ) (h : k < length xs) where
-  pub ahead_here : get_or xs k 0 ≡ i → ahead size (drop k xs) i ≡ 0
-  ahead_here e = at_drop_more (λ l. ahead size l i) xs k 0 h ∙ ap (λ b. cond b 0 (size (get_or xs k 0) + ahead size (drop (k + 1) xs) i)) (eq-eqb (get_or xs k 0) i e)
-
-  pub ahead_more : (get_or xs k 0 ≡ i → ⊥) → ahead size (drop k xs) i ≡ size (get_or xs k 0) + ahead size (drop (k + 1) xs) i
-  ahead_more e = at_drop_more (λ l. ahead size l i) xs k 0 h ∙ ap (λ b. cond b 0 (size (get_or xs k 0) + ahead size (drop (k + 1) xs) i)) (ne_eqb (get_or xs k 0) i e)
 
 pub ahead_same : (a b : ℕ → ℕ) (i : ℕ) (xs : List ℕ) → ((k : ℕ) → k < length xs → a (get_or xs k 0) ≡ b (get_or xs k 0)) → ahead a xs i ≡ ahead b xs i
 ahead_same a b i [] h = refl

@@ -2,16 +2,13 @@
 use Rattle.std.proofs.Common.{◌≡◌, ℕ, suc, ◌+◌, ◌/◌, ◌%◌, ◌^◌, ◌<◌, Bool, true, false, cond, not, ◌&&◌, ◌||◌, eqb, ◌⊎◌, List, [], ◌∷◌, length, get_or, drop, set, sym, refl, ap, ◌∙◌, inl, inr, add-zero, arith, get_or-set_other, get_or-set_same}
 use mathlib.Core.Path.{fun_ext}
 use native.Mathlib.Nat.{zero-div}
-use lib.Bits.{bit_and, bit_or, and_mask, or_shr, or_mod}
+use lib.Bits.{bit_or, or_shr, or_mod}
 use Rattle.std.proofs.lemmas.List.{at_drop_more}
 use Rattle.std.proofs.lemmas.Bool.{eq-eqb, ne_eqb, cases_eq}
 use Rattle.rules.specs.Wires.{upd}
 use Rattle.rules.specs.Wires.{fresh}
 use Rattle.rules.specs.Wires.{picked, drive, mark}
 use Rattle.board.specs.WireTables.{bit, driven_by, reaches, picked_from, fill}
-
-pub has_bit : (n k : ℕ) → eqb (bit_and (n / 2 ^ k) 1) 1 ≡ bit n k
-has_bit n k = ap (λ x. eqb x 1) (and_mask (n / 2 ^ k) 1)
 
 mod2 : (n : ℕ) → (n % 2 ≡ 0) ⊎ (n % 2 ≡ 1)
 mod2 n = grind arith
@@ -49,9 +46,6 @@ reach_set rs w m h =
 -- One turn of a loop: what is left of the pins, without the first
 
 module _ (xs : List ℕ) (i : ℕ) (ds : List Bool) (h : i < length xs) where
-  pub fresh_no : driven_by ds (get_or xs i 0) ≡ true → fresh (drop i xs) (driven_by ds) ≡ false
-  fresh_no e = at_drop_more (λ l. fresh l (driven_by ds)) xs i 0 h ∙ ap (λ b. not b && fresh (drop (i + 1) xs) (mark (get_or xs i 0) (driven_by ds))) e
-
   pub fresh_yes : get_or xs i 0 < length ds → driven_by ds (get_or xs i 0) ≡ false → fresh (drop i xs) (driven_by ds) ≡ fresh (drop (i + 1) xs) (driven_by (set ds (get_or xs i 0) true))
   fresh_yes l e =
       at_drop_more (λ l. fresh l (driven_by ds)) xs i 0 h ∙ ap (λ b. not b && fresh (drop (i + 1) xs) (mark (get_or xs i 0) (driven_by ds))) e ∙ ap (fresh (drop (i + 1) xs)) (sym (mark_set ds (get_or xs i 0) l))

@@ -1,6 +1,4 @@
 use Rattle.std.proofs.Common.{◌<◌, length, get_or, sym, ◌∙◌, arith, length-set, rules}
-use Rattle.std.proofs.lemmas.List.{at_drop_all}
-use Rattle.board.specs.WireTables.{bit, reaches, fill}
 use Rattle.board.proofs.Pins.{fill_more}
 use Rattle.board.proofs.wires.WireTable.put_reach.Goals as goal
 
@@ -10,10 +8,3 @@ loop-w-preserved c =
     let i = c.loop-w.w-index in
     let l : get_or xs i 0 < length c.loop-w.self.reach = search rules in
     (simp length-set c.loop-w.invariant.0, sym (fill_more xs i c.args.mask c.loop-w.self.reach (omega arith) l) ∙ c.loop-w.invariant.1, c.loop-w.invariant.2)
-
-pub returns : goal.returns
-returns c =
-    record {
-      reach = sym (sym c.loop-w.invariant.1 ∙ at_drop_all (λ l. fill l (bit c.args.mask) (reaches c.loop-w.self.reach)) c.args.pins.now c.loop-w.w-index (omega arith));
-      driven = c.loop-w.invariant.2;
-    }
