@@ -15,9 +15,6 @@ passed a b e = ap (λ v. v then b) e
 pub failed : (a b : Verdict) (r : Refusal) → a ≡ refused r → (a then b) ≡ refused r
 failed a b r e = ap (λ v. v then b) e
 
-pub accepted_refused : (r : Refusal) → accepted ≡ refused r → ⊥
-accepted_refused r e = cc
-
 pub refused_accepted : (r : Refusal) → refused r ≡ accepted → ⊥
 refused_accepted r e = cc
 
