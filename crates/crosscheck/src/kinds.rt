@@ -13,6 +13,7 @@ pub trait Kind: Signal {
 
     type Start: ColdStart<Self>;
 
+    // Stays: a From is written in the crate of one of its two types, and neither of them knows the other.
     fn own(self) -> Self::Own;
 
     fn any(dice: &mut Dice) -> Self;
