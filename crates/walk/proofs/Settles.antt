@@ -33,9 +33,17 @@ pub moved : (L ls : List Level) (top k : ℕ) (c : Level) → top < length ls �
 moved L ls top k c h e =
     ap (λ (l : List Level). set l top (placed (level_at l top) k)) e ∙ ap (λ (z : Level). set (set ls top c) top (placed z k)) (level_same ls top c h) ∙ set-set ls top c (placed c k)
 
--- and one whose place and cell are
-pub entry_moved : (L ls : List Level) (top : ℕ) (c : Level) → top < length ls → L ≡ set ls top c → set L top (advanced c (c.place + 1) (c.cell + 1)) ≡ set ls top (advanced c (c.place + 1) (c.cell + 1))
-entry_moved L ls top c h e = ap (λ (l : List Level). set l top (advanced c (c.place + 1) (c.cell + 1))) e ∙ set-set ls top c (advanced c (c.place + 1) (c.cell + 1))
+-- a level's place is written, and then its cell
+abbrev pub twice : List Level → ℕ → ℕ → ℕ → List Level
+twice L top place cell' =
+    set (set L top (placed (level_at L top) place)) top (advanced (level_at (set L top (placed (level_at L top) place)) top) (level_at (set L top (placed (level_at L top) place)) top).place cell')
+
+pub entry_moved : (L ls : List Level) (top k cell' : ℕ) (c : Level) → top < length ls → L ≡ set ls top c → twice L top k cell' ≡ set ls top (advanced c k cell')
+entry_moved L ls top k cell' c h e =
+    let x = placed c k in
+    ap (λ (l : List Level). set l top (advanced (level_at l top) (level_at l top).place cell')) (moved L ls top k c h e)
+    ∙ ap (λ (z : Level). set (set ls top x) top (advanced z z.place cell')) (level_same ls top x h)
+    ∙ set-set ls top x (advanced x x.place cell')
 
 -- the level that was written
 pub written : (L ls : List Level) (top : ℕ) (c : Level) → top < length ls → L ≡ set ls top c → level_at L top ≡ c

@@ -1,7 +1,6 @@
 -- What the functions on the stack rely on and give, by the level that is last.
 use Rattle.std.proofs.Common.{◌≡◌, ℕ, ◌+◌, ◌-◌, ◌<◌, ◌≤◌, ◌≢◌, List, [], ◌∷◌, map, length, get_or, take, drop, set, Some, sym, refl, ap, ◌∙◌, subst, ap₂, arith}
 use mathlib.Core.Path.{fun_ext}
-use Rattle.std.proofs.lemmas.List.{set-set}
 use Rattle.gates.specs.declared.Gate.{Gate}
 use Rattle.gates.specs.declared.Part.TheVariants.{Gate as gate, Cell as cell, Module as module_no}
 use Rattle.signal.specs.Kinds.{Kind}
@@ -23,7 +22,6 @@ use Rattle.walk.proofs.Bytes
 use Rattle.walk.proofs.Values.{lent_length, lent_get_or}
 use Rattle.walk.proofs.Modules
 use Rattle.walk.proofs.Rows.{outputs_wait}
-use Rattle.walk.proofs.Sim.{level_same}
 use Rattle.walk.proofs.States.{Sounds, Running}
 use Rattle.walk.proofs.States
 use Rattle.walk.proofs.Stores
@@ -34,28 +32,6 @@ pub one_write : {V : Type 0} (K : Kind V) (base : ℕ) (os : List ℕ) (v : V) (
 one_write K base [] v work e = absurd (omega arith)
 one_write K base (o ∷ []) v work e = refl
 one_write K base (o ∷ p ∷ os) v work e = absurd (omega arith)
-
--- A level whose place, or place and cell, are written
-
-pub placed_at : (L ls : List Level) → L ≡ ls → (top place : ℕ) → top < length ls → level_at (set L top (placed (level_at L top) place)) top ≡ placed (level_at ls top) place
-placed_at L ls e top place h = ap (λ l. level_at (set l top (placed (level_at l top) place)) top) e ∙ level_same ls top (placed (level_at ls top) place) h
-
-pub placed_is : (L ls : List Level) → L ≡ ls → (top place : ℕ) → top < length ls → set L top (placed (level_at L top) place) ≡ set ls top (placed (level_at ls top) (level_at (set L top (placed (level_at L top) place)) top).place)
-placed_is L ls e top place h =
-    ap (λ l. set l top (placed (level_at l top) place)) e ∙ sym (ap (λ (c : Level). set ls top (placed (level_at ls top) c.place)) (placed_at L ls e top place h))
-
--- a level's place is written, and then its cell
-abbrev pub twice : List Level → ℕ → ℕ → ℕ → List Level
-twice L top place cell' =
-    set (set L top (placed (level_at L top) place)) top (advanced (level_at (set L top (placed (level_at L top) place)) top) (level_at (set L top (placed (level_at L top) place)) top).place cell')
-
-pub twice_is : (L ls : List Level) → L ≡ ls → (top place cell' : ℕ) → top < length ls → twice L top place cell' ≡ set ls top (advanced (level_at ls top) place cell')
-twice_is L ls e top place cell' h =
-    let x = placed (level_at ls top) place in
-    ap (λ l. twice l top place cell') e ∙ ap (λ (z : Level). set (set ls top x) top (advanced z z.place cell')) (level_same ls top x h) ∙ set-set ls top x (advanced x x.place cell')
-
-pub twice_at : (L ls : List Level) → L ≡ ls → (top place cell' : ℕ) → top < length ls → level_at (twice L top place cell') top ≡ advanced (level_at ls top) place cell'
-twice_at L ls e top place cell' h = ap (λ l. level_at l top) (twice_is L ls e top place cell' h) ∙ level_same ls top (advanced (level_at ls top) place cell') h
 
 -- Ticks
 

@@ -25,6 +25,8 @@ pub(crate) struct Walk<'b, 'c, 'w, 'l, K> {
     ghost many: { 8 ≤ length levels.now },
 }
 
+// Stays: that a walk shows a machine is a clause of each method and no ghost field, since it is false between the write of a
+// wire and that of the level's place.
 impl<'b, 'c, 'w, 'l, K: Signal> Walk<'b, 'c, 'w, 'l, K> {
     ghost use Rattle.walk.specs.Walks.{last, above, ShownBy, Ready, LaterBy, AfterBy, SameMemory, EnteredAs, LeftAs, RisenAs};
 
@@ -103,11 +105,8 @@ impl<'b, 'c, 'w, 'l, K: Signal> Walk<'b, 'c, 'w, 'l, K> {
             let value = work[level.base + o.ins[0] as usize];
             cells[cell] = value;
             cell += 1;
-            levels[last] = Level {
-                place: place + 1,
-                cell,
-                ..level
-            };
+            levels[last].place = place + 1;
+            levels[last].cell = cell;
         }
         None
     }

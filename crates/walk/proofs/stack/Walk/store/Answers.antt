@@ -165,7 +165,7 @@ loop-place-preserved g c =
     let w = c.args.self.now in
     let is = c.occurrence-o.result.ins.now in
     record {
-      levels = Settles.entry_moved c.loop-place.levels w.levels.now (w.depth - 1) b (now g d).level c.loop-place.invariant.levels;
+      levels = Settles.entry_moved c.loop-place.levels w.levels.now (w.depth - 1) (c.loop-place.place + 1) (c.loop-place.cell + 1) b (now g d).level c.loop-place.invariant.levels;
       later = λ M s.
           let l = c.loop-place.invariant.later M s in
           let v = get_or_read w.work.now (b.base + get_or is 0 0) c.index-work-level.result (in_there g f) c.index-work-level.is (K g d).low ∙ ap (λ (x : List ℕ). get_or w.work.now (b.base + get_or x 0 0) (K g d).low) (ins_are g e) in
