@@ -2,13 +2,18 @@
 ghost use Rattle.std.specs.Prelude.{◌≡◌};
 ghost use Rattle.std.proofs.Props.{props};
 ghost use mathlib.Core.Sum.{⊎_set};
+ghost use Rattle.rules.specs.Refusals.{Judges};
+ghost use Rattle.rules.specs.Judging.{verdict};
+ghost use Rattle.rules.specs.Breaks.{AcceptedExactly, VerdictFirst};
 ghost use Rattle.board.specs.Decoded.{Accepted};
 ghost use Rattle.board.specs.Lent.{Right};
 ghost use Rattle.board.specs.Sizes.{Figured, FiguresOf};
 
 use crate::figures::Figures;
+use crate::judging::judge;
 use crate::lent::{Tables, lend};
 use crate::tables::{Judged, Summary};
+use rules::Refusal;
 
 #[derive(Drop)]
 pub struct Board<'f> {
@@ -22,6 +27,18 @@ pub fn seal<'f>(judged: Judged<'f>) -> Board<'f>
     ensures { result.judged ≡ judged.entry }
 {
     Board { judged }
+}
+
+impl<'f> Board<'f> {
+    // A file that is judged and sealed in one call.
+    pub fn read(file: &'f [u8]) -> Result<Board<'f>, Refusal>
+        ensures answer { Judges result (verdict file.now) (λ b. b.judged.file.now ≡ file.now) }
+        ensures exactly { AcceptedExactly file.now }
+        ensures first { VerdictFirst file.now (verdict file.now) }
+    {
+        let judged = judge(file)?;
+        Ok(seal(judged))
+    }
 }
 
 fn figures_of(modules: usize, top: Summary) -> Figures

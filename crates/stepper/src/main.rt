@@ -18,7 +18,7 @@ use crate::fault::Fault;
 use crate::kind::Kind;
 use crate::runs::run_all;
 use crate::sample::Sample;
-use board::{Board, judge, seal};
+use board::Board;
 use signal::levels::Level;
 use std::{env, fs};
 
@@ -67,8 +67,8 @@ fn show_kind(rt: &HostRuntime, board: &Board<'_>, words: &Words) -> anyhow::Resu
 fn run(rt: &HostRuntime) -> anyhow::Result<()> {
     let words = read_words(rt)?;
     let file = fs::read(rt, words.path.as_str())?;
-    let judged = judge(file.as_slice()).map_err(Fault::from)?;
-    show_kind(rt, &seal(judged), &words)
+    let board = Board::read(file.as_slice()).map_err(Fault::from)?;
+    show_kind(rt, &board, &words)
 }
 
 fn main(rt: HostRuntime) -> anyhow::Result<()> {

@@ -1,5 +1,5 @@
 // What a judge says of a file.
-use board::{Refusal, judge, seal};
+use board::{Board, Refusal};
 use std::fmt;
 
 pub type Verdict = Result<Figures, Refused>;
@@ -63,6 +63,5 @@ impl fmt::Display for Refused {
 
 // What the board library says of a file.
 pub(crate) fn verdict_of(file: &[u8]) -> Verdict {
-    let judged = judge(file)?;
-    Ok(seal(judged).figures().into())
+    Ok(Board::read(file)?.figures().into())
 }
