@@ -39,14 +39,14 @@ impl Dice {
     }
 
     // Any of the items, unless there are none.
-    pub fn one_of<'a, T>(&mut self, items: &'a [T]) -> Option<&'a T>
+    pub(crate) fn one_of<'a, T>(&mut self, items: &'a [T]) -> Option<&'a T>
         ensures { 0 < length items.now → IsSome result }
     {
         items.get(self.below(items.len()))
     }
 
     // Puts the items into any order.
-    pub fn shuffle<T>(&mut self, items: &mut [T]) {
+    pub(crate) fn shuffle<T>(&mut self, items: &mut [T]) {
         let last = items.len().saturating_sub(1);
         for place in 0..items.len() {
             let other = self.between(place, last);

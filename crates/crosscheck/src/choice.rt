@@ -1,13 +1,15 @@
 // Calls by chance, refused ones among them.
+use crate::library::Lengths;
 use board::Figures;
 use board_maker::dice::Dice;
-use flat_evaluator::calls::{Call, Room};
+use flat_evaluator::calls::{Call, Operation, Room};
+use run::{LEVEL_RECORDS, WORKING_VALUES};
 
 // What calls are chosen by: the board's figures, the lengths of the caller's memory, and where the run stands.
 #[derive(Clone, Copy)]
 pub struct Standing {
     pub figures: Figures,
-    pub most: Room,
+    pub most: Lengths,
     pub cycle: usize,
     // Whether a start may be cold.
     pub colds: bool,
@@ -16,7 +18,7 @@ pub struct Standing {
 impl Standing {
     pub fn any_call(&self, dice: &mut Dice) -> Call {
         let spoilt = dice.chance(25);
-        let full = self.tape_from(1) > self.most.tape;
+        let full = self.tape_from(1) > self.most.room.tape;
         let starts = dice.chance(if full { 30 } else { 2 });
         let mut numbers = Numbers { dice, spoilt };
         if starts {
@@ -24,15 +26,20 @@ impl Standing {
         }
         match numbers.dice.below(20) {
             0..=10 => self.any_step(&mut numbers),
-            11..=13 => Call::Set {
-                cell: numbers.below(self.figures.cells),
+            11..=13 => Call {
+                operation: Operation::Set {
+                    cell: numbers.below(self.figures.cells),
+                },
                 cells: self.any_cells(&mut numbers),
             },
-            14 => Call::Clear {
+            14 => Call {
+                operation: Operation::Clear,
                 cells: self.any_cells(&mut numbers),
             },
-            15..=16 => Call::Read {
-                cell: numbers.below(self.figures.cells),
+            15..=16 => Call {
+                operation: Operation::Read {
+                    cell: numbers.below(self.figures.cells),
+                },
                 cells: self.any_cells(&mut numbers),
             },
             _ => self.any_look(&mut numbers),
@@ -40,20 +47,23 @@ impl Standing {
     }
 
     pub fn right_start(&self) -> Call {
-        Call::Power {
+        Call {
+            operation: Operation::Power,
             cells: self.figures.cells,
         }
     }
 
     // A step that is refused only for the tape.
     pub fn right_step(&self) -> Call {
-        Call::Step(Room {
-            inputs: self.figures.inputs,
+        Call {
+            operation: Operation::Step(Room {
+                inputs: self.figures.inputs,
+                tape: self.most.room.tape,
+                values: WORKING_VALUES,
+                levels: LEVEL_RECORDS,
+            }),
             cells: self.figures.cells,
-            tape: self.most.tape,
-            values: 1024,
-            levels: 8,
-        })
+        }
     }
 
     fn any_cells(&self, numbers: &mut Numbers<'_>) -> usize {
@@ -62,37 +72,43 @@ impl Standing {
 
     fn any_start(&self, numbers: &mut Numbers<'_>) -> Call {
         let cells = self.any_cells(numbers);
-        if self.colds && numbers.dice.chance(60) {
-            Call::Cold { cells }
+        let operation = if self.colds && numbers.dice.chance(60) {
+            Operation::Cold
         } else {
-            Call::Power { cells }
-        }
+            Operation::Power
+        };
+        Call { operation, cells }
     }
 
     fn any_step(&self, numbers: &mut Numbers<'_>) -> Call {
         let miscounted = numbers.errs(40);
-        Call::Step(Room {
-            inputs: numbers
-                .spoilt_if(miscounted)
-                .length(self.figures.inputs, self.most.inputs),
-            cells: self.any_cells(numbers),
-            tape: numbers.room(self.tape_from(1), self.most.tape),
-            values: numbers.room(1024, self.most.values),
-            levels: numbers.room(8, self.most.levels),
-        })
+        let most = self.most.room;
+        let inputs = numbers
+            .spoilt_if(miscounted)
+            .length(self.figures.inputs, most.inputs);
+        let cells = self.any_cells(numbers);
+        let operation = Operation::Step(Room {
+            inputs,
+            tape: numbers.room(self.tape_from(1), most.tape),
+            values: numbers.room(WORKING_VALUES, most.values),
+            levels: numbers.room(LEVEL_RECORDS, most.levels),
+        });
+        Call { operation, cells }
     }
 
     fn any_look(&self, numbers: &mut Numbers<'_>) -> Call {
         let misnumbered = numbers.errs(40);
         let misfit = numbers.errs(40);
-        Call::Look {
-            cycle: numbers.below(self.cycle),
-            output: numbers.spoilt_if(misnumbered).below(self.figures.outputs),
-            cells: self.any_cells(&mut numbers.spoilt_if(misfit)),
-            tape: numbers
-                .spoilt_if(misfit)
-                .room(self.tape_from(0), self.most.tape),
-        }
+        let cycle = numbers.below(self.cycle);
+        let output = numbers.spoilt_if(misnumbered).below(self.figures.outputs);
+        let mut lengths = numbers.spoilt_if(misfit);
+        let cells = self.any_cells(&mut lengths);
+        let operation = Operation::Look {
+            cycle,
+            output,
+            tape: lengths.room(self.tape_from(0), self.most.room.tape),
+        };
+        Call { operation, cells }
     }
 
     // How many tape values the cycles so far and some more have.

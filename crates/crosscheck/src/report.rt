@@ -1,6 +1,6 @@
 // What was compared, and what differed.
 use crate::view::{Expected, View};
-use flat_evaluator::calls::{Call, Outcome, Refusal};
+use flat_evaluator::calls::{Operation, Outcome, Refusal};
 use flat_evaluator::values::Value;
 use std::{fmt, io};
 
@@ -54,7 +54,7 @@ impl fmt::Display for Finding {
     }
 }
 
-// How many calls were not refused, by sort.
+// How many calls were not refused, by operation.
 #[derive(Clone, Copy, Default)]
 struct Answered {
     power: usize,
@@ -67,15 +67,15 @@ struct Answered {
 }
 
 impl Answered {
-    fn count(&mut self, call: &Call) {
-        let count = match call {
-            Call::Power { .. } => &mut self.power,
-            Call::Cold { .. } => &mut self.cold,
-            Call::Step(_) => &mut self.step,
-            Call::Set { .. } => &mut self.set,
-            Call::Clear { .. } => &mut self.clear,
-            Call::Read { .. } => &mut self.read,
-            Call::Look { .. } => &mut self.look,
+    fn count(&mut self, operation: &Operation) {
+        let count = match operation {
+            Operation::Power => &mut self.power,
+            Operation::Cold => &mut self.cold,
+            Operation::Step(_) => &mut self.step,
+            Operation::Set { .. } => &mut self.set,
+            Operation::Clear => &mut self.clear,
+            Operation::Read { .. } => &mut self.read,
+            Operation::Look { .. } => &mut self.look,
         };
         add(count, 1);
     }
@@ -154,10 +154,10 @@ impl Tally {
     }
 
     // Counts a call by what it is to come to.
-    pub fn count<V>(&mut self, call: &Call, outcome: &Outcome<V>) {
+    pub fn count<V>(&mut self, operation: &Operation, outcome: &Outcome<V>) {
         add(&mut self.position.call, 1);
         match outcome {
-            Ok(_) => self.answered.count(call),
+            Ok(_) => self.answered.count(operation),
             Err(refusal) => self.refused.count(*refusal),
         }
     }

@@ -2,17 +2,17 @@
 // handed in admit in a situation.
 use crate::choice::Standing;
 use crate::kinds::{ColdStart, Kind};
-use crate::library::{LibraryRun, any_values, first};
+use crate::library::{Lengths, LibraryRun, any_values, first};
 use crate::report::{Difference, Tally};
 use crate::view::{Expected, View};
 use board::{Board, Figures};
 use board_maker::dice::Dice;
-use flat_evaluator::calls::{Answer, Call, Outcome, Room};
+use flat_evaluator::calls::{Answer, Call, Operation, Outcome, Room};
 use flat_evaluator::fault::Fault;
 use flat_evaluator::flat::Flat;
 use flat_evaluator::flat_run::FlatRun;
 use flat_evaluator::values::Value;
-use run::{CallRefusal, Run, power};
+use run::{CallRefusal, LEVEL_RECORDS, Run, WORKING_VALUES, power};
 use std::alloc::{AllocError, Global};
 
 const CALLS: usize = 60;
@@ -40,16 +40,18 @@ impl Task<'_, '_, '_> {
     }
 
     // More of each sort than the board needs, and a tape for some of the cycles.
-    fn any_room(&self, dice: &mut Dice) -> Room {
+    fn any_lengths(&self, dice: &mut Dice) -> Lengths {
         let outputs = self.figures.outputs;
         let cycles = self.steps.saturating_add(dice.below(CALLS + 1));
         let rest = dice.below(outputs.saturating_add(1));
-        Room {
-            inputs: self.figures.inputs.saturating_add(2),
+        Lengths {
             cells: self.figures.cells.saturating_add(3),
-            tape: cycles.saturating_mul(outputs).saturating_add(rest),
-            values: 1030,
-            levels: 10,
+            room: Room {
+                inputs: self.figures.inputs.saturating_add(2),
+                tape: cycles.saturating_mul(outputs).saturating_add(rest),
+                values: WORKING_VALUES + 6,
+                levels: LEVEL_RECORDS + 2,
+            },
         }
     }
 }
@@ -60,7 +62,7 @@ struct Session<'b, 'f, 's, K: Kind> {
     task: &'s Task<'b, 'f, 's>,
     dice: &'s mut Dice,
     tally: &'s mut Tally,
-    most: Room,
+    most: Lengths,
     view: View,
     library: LibraryRun<'b, 'f, K>,
     wanted: FlatRun<K::Own>,
@@ -75,7 +77,7 @@ impl<'b, 'f, 's, K: Kind> Session<'b, 'f, 's, K> {
         tally: &'s mut Tally,
     ) -> Result<Session<'b, 'f, 's, K>, Fault> {
         let heap = task.heap;
-        let most = task.any_room(dice);
+        let most = task.any_lengths(dice);
         let view = View::any(dice);
         let library = LibraryRun::new(heap, task.board, run, dice, &most)?;
         Ok(Session {
@@ -91,7 +93,7 @@ impl<'b, 'f, 's, K: Kind> Session<'b, 'f, 's, K> {
             },
             bits: FlatRun {
                 cells: vec![in heap; false; most.cells]?,
-                tape: vec![in heap; false; most.tape]?,
+                tape: vec![in heap; false; most.room.tape]?,
                 cycle: 0,
             },
             library,
@@ -125,12 +127,12 @@ impl<'b, 'f, 's, K: Kind> Session<'b, 'f, 's, K> {
     // The values that a call is handed: a step's inputs, the value to set, or the cells of a cold start.
     fn handed(&mut self, call: &Call) -> Result<Vec<K>, AllocError> {
         let heap = self.task.heap;
-        match call {
-            Call::Step(room) => self.view.any_values(heap, self.dice, room.inputs),
-            Call::Set { .. } => self.view.any_values(heap, self.dice, 1),
-            Call::Cold { cells } => {
+        match call.operation {
+            Operation::Step(room) => self.view.any_values(heap, self.dice, room.inputs),
+            Operation::Set { .. } => self.view.any_values(heap, self.dice, 1),
+            Operation::Cold => {
                 let unknown = K::Start::unknown().unwrap_or(K::low());
-                Ok(vec![in heap; unknown; *cells]?)
+                Ok(vec![in heap; unknown; call.cells]?)
             }
             _ => Ok(Vec::new(heap)),
         }
@@ -146,7 +148,7 @@ impl<'b, 'f, 's, K: Kind> Session<'b, 'f, 's, K> {
         let found = self.library.call(call, handed.as_slice());
         let wanted = self.wanted.call(heap, flat, call, own.as_slice())?;
         let on_bits = self.bits.call(heap, flat, call, bits.as_slice())?;
-        self.tally.count(call, &wanted);
+        self.tally.count(&call.operation, &wanted);
         self.compare_outcomes(&found, &wanted, &on_bits)?;
         Ok(wanted)
     }

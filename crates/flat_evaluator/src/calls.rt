@@ -1,54 +1,36 @@
 // Calls on a run, and what they answer.
 
-// A call, with its numbers and how many values of each sort it is handed. The values themselves stand beside it.
+// A call, and how many cells it is handed. The values themselves stand beside it.
 #[derive(Clone, Copy)]
-pub enum Call {
-    Power {
-        cells: usize,
-    },
-    Cold {
-        cells: usize,
-    },
+pub struct Call {
+    pub operation: Operation,
+    pub cells: usize,
+}
+
+// What is called, with its numbers and how many values it is handed beside the cells.
+#[derive(Clone, Copy)]
+pub enum Operation {
+    Power,
+    Cold,
     Step(Room),
     Set {
         cell: usize,
-        cells: usize,
     },
-    Clear {
-        cells: usize,
-    },
+    Clear,
     Read {
         cell: usize,
-        cells: usize,
     },
     Look {
         cycle: usize,
         output: usize,
-        cells: usize,
         tape: usize,
     },
 }
 
-impl Call {
-    // How many cells it is handed.
-    pub fn cells(&self) -> usize {
-        match self {
-            Call::Step(room) => room.cells,
-            Call::Power { cells }
-            | Call::Cold { cells }
-            | Call::Set { cells, .. }
-            | Call::Clear { cells }
-            | Call::Read { cells, .. }
-            | Call::Look { cells, .. } => *cells,
-        }
-    }
-}
-
-// How many values of each sort a step is handed.
+// How many values of each sort a step is handed beside the cells.
 #[derive(Clone, Copy)]
 pub struct Room {
     pub inputs: usize,
-    pub cells: usize,
     pub tape: usize,
     pub values: usize,
     pub levels: usize,

@@ -28,7 +28,7 @@ pub struct Pins {
 
 impl Pins {
     // The same wires where the module's wires are numbered from the first on.
-    pub fn numbered_from(&self, heap: Global, first: usize) -> Result<Pins, Fault> {
+    pub(crate) fn numbered_from(&self, heap: Global, first: usize) -> Result<Pins, Fault> {
         Ok(Pins {
             inputs: numbered(heap, first, self.inputs.as_slice())?,
             outputs: numbered(heap, first, self.outputs.as_slice())?,
@@ -87,9 +87,7 @@ pub fn decode(heap: Global, file: &[u8]) -> Result<Vec<Module>, Fault> {
 
 impl<'a> Reader<'a> {
     fn bytes<const N: usize>(&mut self) -> Result<[u8; N], Fault> {
-        let Some((bytes, rest)) = self.rest.split_first_chunk::<N>() else {
-            return Err(Fault::File);
-        };
+        let (bytes, rest) = self.rest.split_first_chunk::<N>().ok_or(Fault::File)?;
         self.rest = rest;
         Ok(*bytes)
     }
@@ -109,9 +107,10 @@ impl<'a> Reader<'a> {
     }
 
     fn list(&mut self, count: u8) -> Result<Vec<usize>, Fault> {
-        let Some((list, rest)) = self.rest.split_at_checked(usize::from(count)) else {
-            return Err(Fault::File);
-        };
+        let (list, rest) = self
+            .rest
+            .split_at_checked(usize::from(count))
+            .ok_or(Fault::File)?;
         self.rest = rest;
         Ok(
             list.iter()

@@ -42,7 +42,7 @@ pub struct Flat {
     pub cells: Vec<Cell>,
     // For each wire the gates that read it.
     // Stays: a wire and a gate have no names but their numbers, which are the places of the two lists.
-    pub readers: Vec<Vec<usize>>,
+    pub(crate) readers: Vec<Vec<usize>>,
     pub places: usize,
     pub depth: usize,
 }
@@ -56,15 +56,12 @@ impl Flat {
     }
 
     // How many tape values so many cycles have.
-    pub fn tape_len(&self, cycles: usize) -> usize {
+    pub(crate) fn tape_len(&self, cycles: usize) -> usize {
         cycles.saturating_mul(self.outputs.len())
     }
 
-    pub fn readers(&self, wire: usize) -> &[usize] {
-        match self.readers.get(wire) {
-            Some(readers) => readers.as_slice(),
-            None => &[],
-        }
+    pub(crate) fn readers(&self, wire: usize) -> &[usize] {
+        self.readers.get(wire).map_or(&[], |list| list.as_slice())
     }
 
     // For each of so many wires, how many inputs, gates and cells drive it.

@@ -1,5 +1,5 @@
 // A run of a flat board, with refusals of its own.
-use crate::calls::{Answer, Call, Outcome, Refusal, Room};
+use crate::calls::{Answer, Call, Operation, Outcome, Refusal, Room};
 use crate::fault::Fault;
 use crate::flat::Flat;
 use crate::settle::settle;
@@ -7,6 +7,11 @@ use crate::values::Value;
 use std::alloc::Global;
 
 const MOST_CYCLES: usize = 65_535;
+
+// As many working values and level records as a step has to be handed.
+const WORKING_VALUES: usize = 1024;
+
+const LEVEL_RECORDS: usize = 8;
 
 // The cells and the tape are what the caller's memory is to hold, also behind the board's cells and the cycles so far.
 #[derive(Drop)]
@@ -40,24 +45,24 @@ impl<V: Value> FlatRun<V> {
         call: &Call,
         handed: &[V],
     ) -> Result<Answer<V>, Fault> {
-        match call {
-            Call::Power { cells } => {
-                self.lower_cells(*cells);
+        match call.operation {
+            Operation::Power => {
+                self.lower_cells(call.cells);
                 self.cycle = 0;
             }
-            Call::Cold { .. } => {
+            Operation::Cold => {
                 self.put_cells(handed);
                 self.cycle = 0;
             }
-            Call::Step(_) => return self.step(heap, flat, handed),
-            Call::Set { cell, .. } => self.put_cell(*cell, handed),
-            Call::Clear { cells } => self.lower_cells(*cells),
-            Call::Read { cell, .. } => return Ok(Answer::Value(value_at(
+            Operation::Step(_) => return self.step(heap, flat, handed),
+            Operation::Set { cell } => self.put_cell(cell, handed),
+            Operation::Clear => self.lower_cells(call.cells),
+            Operation::Read { cell } => return Ok(Answer::Value(value_at(
                 self.cells.as_slice(),
-                *cell,
+                cell,
             ))),
-            Call::Look { cycle, output, .. } => {
-                let place = flat.tape_len(*cycle).saturating_add(*output);
+            Operation::Look { cycle, output, .. } => {
+                let place = flat.tape_len(cycle).saturating_add(output);
                 return Ok(Answer::Value(value_at(self.tape.as_slice(), place)));
             }
         }
@@ -65,11 +70,11 @@ impl<V: Value> FlatRun<V> {
     }
 
     fn accept(&self, flat: &Flat, call: &Call) -> Result<(), Refusal> {
-        accept_numbers(flat, call)?;
-        require(call.cells() == flat.cells.len(), Refusal::Fit)?;
-        match call {
-            Call::Step(room) => self.accept_step(flat, room),
-            Call::Look { cycle, tape, .. } => {
+        accept_numbers(flat, &call.operation)?;
+        require(call.cells == flat.cells.len(), Refusal::Fit)?;
+        match &call.operation {
+            Operation::Step(room) => self.accept_step(flat, room),
+            Operation::Look { cycle, tape, .. } => {
                 require(*tape >= flat.tape_len(self.cycle), Refusal::Fit)?;
                 require(*cycle < self.cycle, Refusal::Unseen)
             }
@@ -80,7 +85,8 @@ impl<V: Value> FlatRun<V> {
     // A step with the right numbers of inputs and cells.
     fn accept_step(&self, flat: &Flat, room: &Room) -> Result<(), Refusal> {
         let filled = flat.tape_len(self.cycle.saturating_add(1));
-        require(room.values >= 1024 && room.levels >= 8, Refusal::Fit)?;
+        require(room.values >= WORKING_VALUES, Refusal::Fit)?;
+        require(room.levels >= LEVEL_RECORDS, Refusal::Fit)?;
         require(filled <= room.tape, Refusal::Tape)?;
         require(self.cycle < MOST_CYCLES, Refusal::Tape)
     }
@@ -120,13 +126,13 @@ impl<V: Value> FlatRun<V> {
 }
 
 // The numbers of inputs, cells and outputs that a call says.
-fn accept_numbers(flat: &Flat, call: &Call) -> Result<(), Refusal> {
-    match call {
-        Call::Step(room) => require(room.inputs == flat.inputs.len(), Refusal::Count),
-        Call::Set { cell, .. } | Call::Read { cell, .. } => {
+fn accept_numbers(flat: &Flat, operation: &Operation) -> Result<(), Refusal> {
+    match operation {
+        Operation::Step(room) => require(room.inputs == flat.inputs.len(), Refusal::Count),
+        Operation::Set { cell } | Operation::Read { cell } => {
             require(*cell < flat.cells.len(), Refusal::Index)
         }
-        Call::Look { output, .. } => require(*output < flat.outputs.len(), Refusal::Index),
+        Operation::Look { output, .. } => require(*output < flat.outputs.len(), Refusal::Index),
         _ => Ok(()),
     }
 }

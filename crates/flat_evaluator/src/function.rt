@@ -40,7 +40,7 @@ impl TryFrom<u16> for Function {
 
 impl Function {
     // What it gives of three inputs; one of fewer inputs leaves the last ones aside.
-    pub fn truth(self, a: bool, b: bool, c: bool) -> bool {
+    pub(crate) fn truth(self, a: bool, b: bool, c: bool) -> bool {
         self.row()[4 * usize::from(a) + 2 * usize::from(b) + usize::from(c)]
     }
 

@@ -86,9 +86,8 @@ impl<'f, V: Value> Wires<'f, V> {
     }
 
     fn operand(&self, gate: &Gate, pin: usize) -> V {
-        match gate.inputs.get(pin) {
-            Some(wire) => self.value(*wire),
-            None => V::of_bit(false),
-        }
+        gate.inputs
+            .get(pin)
+            .map_or(V::of_bit(false), |wire| self.value(*wire))
     }
 }
