@@ -3,6 +3,8 @@
 #![tactic(auto)]
 
 ghost use Rattle.std.specs.Prelude.{◌≡◌};
+ghost use Rattle.board.specs.Sizes.{FiguresOf};
+ghost use Rattle.run.specs.Calls.{board_under};
 ghost use Rattle.run.specs.Examples.{WorkedExamples};
 ghost use Rattle.run.specs.AllExamples.{AllExamples};
 
@@ -12,7 +14,7 @@ mod start;
 mod step;
 mod tape;
 
-use board::Board;
+use board::{Board, Figures};
 pub use refusal::CallRefusal;
 pub use start::{cold, power};
 pub use walk::{LEVEL_RECORDS, Level, WORKING_VALUES};
@@ -30,6 +32,13 @@ impl Run<'_, '_> {
         ensures { result ≡ self.now.cycle }
     {
         self.cycle
+    }
+
+    // The figures of the run's board.
+    pub fn figures(&self) -> Figures
+        ensures { FiguresOf (board_under self.now).judged.file.now result }
+    {
+        self.board.figures()
     }
 }
 

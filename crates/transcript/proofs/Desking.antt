@@ -1,8 +1,7 @@
 -- What a desk stands for, after each of its calls.
-use Rattle.std.proofs.Common.{◌≡◌, ℕ, ◌+◌, ◌-◌, ◌*◌, ◌<◌, ◌≤◌, Bool, true, false, cond, not, ◌&&◌, eqb, leb, List, [], ◌∷◌, ◌++◌, length, take, drop, replicate, Some, Ok, Err, vec_items, vec_len, Result, sym, refl, ap, ◌∙◌, append_assoc, zero-mul, arith, leb-true, MatchResult}
+use Rattle.std.proofs.Common.{◌≡◌, ℕ, ◌+◌, ◌-◌, ◌*◌, ◌<◌, ◌≤◌, Bool, true, false, cond, not, ◌&&◌, eqb, leb, List, [], ◌∷◌, ◌++◌, length, take, drop, replicate, Some, Ok, Err, vec_items, Result, sym, refl, ap, ◌∙◌, append_assoc, zero-mul, arith, leb-true, MatchResult}
 use borrow.Author.Tests.{eqb_apart}
-use Rattle.std.specs.Vec.{with_items}
-use Rattle.std.proofs.lemmas.List.{drop-take, length-append, length-map, length-take-le, nil_from_length, with_items_is, take_at}
+use Rattle.std.proofs.lemmas.List.{drop-take, length-append, length-map, length-take-le, nil_from_length, take_at}
 use Rattle.signal.specs.Kinds.{Kind}
 use Rattle.rules.specs.declared.refusal.Refusal.{Refusal}
 use Rattle.rules.specs.Refusals.{accepted, refused as refuses_by}
@@ -13,7 +12,6 @@ use Rattle.flat.specs.Runs.{Room, Call, step, refused, counted, Run, refusal, ca
 use Rattle.board.specs.declared.board.Board.{Board}
 use Rattle.walk.specs.declared.level.Level.{Level}
 use Rattle.walk.specs.Steps.{design_in}
-use Rattle.run.specs.declared.Run.{Run as Held}
 use Rattle.run.specs.declared.refusal.CallRefusal.{CallRefusal}
 use Rattle.run.specs.Refusals.{number_of, refused_by}
 use Rattle.run.specs.Calls.{Stepped, StepContract, board_under, memory, room, start_in}
@@ -21,7 +19,7 @@ use Rattle.run.proofs.Slices.{refused_at}
 use Rattle.run.proofs.Starts.{begun}
 use Rattle.run.proofs.Tapes.{next_cycle}
 use Rattle.transcript.specs.declared.session.Desk.{Desk}
-use Rattle.transcript.specs.Desks.{Answered, Fresh, Lent, Ready, Told, cycle_of, design_of, done_by, run_of, taped}
+use Rattle.transcript.specs.Desks.{Answered, Fresh, Told, cycle_of, design_of, done_by, run_of, taped}
 use Rattle.transcript.specs.Lines.{after_line, first_line, inputs_of, lines_of}
 use Rattle.transcript.specs.Printed.{board_line, ended_line, kind_line, refused_line, step_line}
 use Rattle.transcript.specs.Sessions.{answer_line, answers, by_verdict, line_done, powered, room_of, transcript}
@@ -56,7 +54,7 @@ abbrev as_run : {V : Type 0} → List V → List V → ℕ → Run V
 as_run cs tape cycle = record { cells = cs; tape = tape; cycle = cycle }
 
 -- a step on a line that is well formed
-module _ {V : Type 0} (K : Kind V) (u : V) (s : Desk V) (line : List ℕ) (ready : Ready s) (vs ins cs tp wk : List V) (ls : List Level) where
+module _ {V : Type 0} (K : Kind V) (u : V) (s : Desk V) (line : List ℕ) (vs ins cs tp wk : List V) (ls : List Level) where
   module _ (read : Some vs ≡ inputs_of K u (in_count (design_of s)) line) (ins_is : ins ≡ vs) (cs_is : cs ≡ vec_items s.cells) (tp_is : tp ≡ vec_items s.tape) (wk_is : wk ≡ vec_items s.work) (ls_is : ls ≡ vec_items s.levels) where
     abbrev d : Design
     d = design_of s
@@ -66,9 +64,9 @@ module _ {V : Type 0} (K : Kind V) (u : V) (s : Desk V) (line : List ℕ) (ready
 
     room_is : room (memory s.run cs tp wk ls) ≡ room_of K u d (run_of s)
     room_is =
-        let t : length tp ≡ 4096 = ap length tp_is ∙ sym s.tape.ok.0 ∙ ready.lent.tape in
-        let w : length wk ≡ 1024 = ap length wk_is ∙ sym s.work.ok.0 ∙ ready.lent.work in
-        let l : length ls ≡ 8 = ap length ls_is ∙ sym s.levels.ok.0 ∙ ready.lent.levels in
+        let t : length tp ≡ 4096 = ap length tp_is ∙ sym s.tape.ok.0 ∙ s.tape_size in
+        let w : length wk ≡ 1024 = ap length wk_is ∙ sym s.work.ok.0 ∙ s.work_size in
+        let l : length ls ≡ 8 = ap length ls_is ∙ sym s.levels.ok.0 ∙ s.level_count in
         ap (λ n. as_room n (length tp) (length wk) (length ls)) (ap length cs_is) ∙ ap (λ n. as_room (length (vec_items s.cells)) n (length wk) (length ls)) t ∙ ap (λ n. as_room (length (vec_items s.cells)) 4096 n (length ls)) w ∙ ap (λ n. as_room (length (vec_items s.cells)) 4096 1024 n) l
 
     asked_is : refusal d (cycle_of s) (step ins (room (memory s.run cs tp wk ls))) ≡ refusal d (cycle_of s) asks
@@ -77,108 +75,84 @@ module _ {V : Type 0} (K : Kind V) (u : V) (s : Desk V) (line : List ℕ) (ready
     done_is : (k : ℕ) → k ≡ refusal d (cycle_of s) (step ins (room (memory s.run cs tp wk ls))) → done_by K u s line ≡ carried_out K d (run_of s) asks k
     done_is k e = ap (line_done K u d (run_of s)) (sym read) ∙ ap (carried_out K d (run_of s) asks) (sym (e ∙ asked_is))
 
-    module _ (run' : Held) (cs' tp' wk' : List V) (ls' : List Level) (cs_long : length cs' ≡ length cs) (tp_long : length tp' ≡ length tp) (board_is : board_under run' ≡ board_under s.run) where
-      abbrev after : Desk V
-      after = record { run = run'; outputs = s.outputs; inputs = with_items s.inputs vs; cells = with_items s.cells cs'; tape = with_items s.tape tp'; work = with_items s.work wk'; levels = with_items s.levels ls' }
-
-      design_is : design_of after ≡ d
+    module _ (t : Desk V) (cs' tp' wk' : List V) (ls' : List Level) (cells_are : vec_items t.cells ≡ cs') (tape_is : vec_items t.tape ≡ tp') (board_is : board_under t.run ≡ board_under s.run) where
+      design_is : design_of t ≡ d
       design_is = ap design_in board_is
 
-      cells_are : vec_items after.cells ≡ cs'
-      cells_are = with_items_is s.cells cs' (cs_long ∙ ap length cs_is ∙ sym s.cells.ok.0)
+      run_is : (cycle : ℕ) (cs'' tape'' : List V) → vec_items t.cells ≡ cs'' → take (taped t) (vec_items t.tape) ≡ tape'' → cycle_of t ≡ cycle → run_of t ≡ as_run cs'' tape'' cycle
+      run_is cycle cs'' tape'' a b e = ap (λ x. as_run x (take (taped t) (vec_items t.tape)) (cycle_of t)) a ∙ ap (λ x. as_run cs'' x (cycle_of t)) b ∙ ap (as_run cs'' tape'') e
 
-      tape_is : vec_items after.tape ≡ tp'
-      tape_is = with_items_is s.tape tp' (tp_long ∙ ap length tp_is ∙ sym s.tape.ok.0)
+      taped_is : (cycle : ℕ) → cycle_of t ≡ cycle → taped t ≡ cycle * length (out_wires d)
+      taped_is cycle e = ap (λ n. n * length (out_wires (design_of t))) e ∙ ap (λ x. cycle * length (out_wires x)) design_is
 
-      run_is : (cycle : ℕ) (cs'' tape'' : List V) → vec_items after.cells ≡ cs'' → take (taped after) (vec_items after.tape) ≡ tape'' → run'.cycle ≡ cycle → run_of after ≡ as_run cs'' tape'' cycle
-      run_is cycle cs'' tape'' a b e = ap (λ x. as_run x (take (taped after) (vec_items after.tape)) run'.cycle) a ∙ ap (λ x. as_run cs'' x run'.cycle) b ∙ ap (as_run cs'' tape'') e
-
-      taped_is : (cycle : ℕ) → run'.cycle ≡ cycle → taped after ≡ cycle * length (out_wires d)
-      taped_is cycle e = ap (λ n. n * length (out_wires (design_of after))) e ∙ ap (λ x. cycle * length (out_wires x)) design_is
-
-      lent_is : taped after ≤ 4096 → cycle_of after ≤ 65535 → Lent after
-      lent_is full few = record { inputs = ready.lent.inputs ∙ ap in_count (sym design_is); tape = ready.lent.tape; work = ready.lent.work; levels = ready.lent.levels; filled = full; few = few }
-
-      told_by : (r : Result ℕ CallRefusal) → refused_by r ≡ refusal d (cycle_of s) (step ins (room (memory s.run cs tp wk ls))) → MatchResult r (Stepped K d ins (memory s.run cs tp wk ls) (memory run' cs' tp' wk' ls')) (λ _. memory run' cs' tp' wk' ls' ≡ memory s.run cs tp wk ls) → Told K u s line after r
+      told_by : (r : Result ℕ CallRefusal) → refused_by r ≡ refusal d (cycle_of s) (step ins (room (memory s.run cs tp wk ls))) → MatchResult r (Stepped K d ins (memory s.run cs tp wk ls) (memory t.run cs' tp' wk' ls')) (λ _. memory t.run cs' tp' wk' ls' ≡ memory s.run cs tp wk ls) → Told K u s line t r
       told_by (Ok n) e st =
           let done : done_by K u s line ≡ carried_out K d (run_of s) asks 0 = done_is 0 e in
-          let ok = accepts d (cycle_of s) vs (room_of K u d (run_of s)) (e ∙ asked_is) in
-          let k : taped after ≡ (cycle_of s + 1) * length (out_wires d) = taped_is (cycle_of s + 1) st.cycle in
+          let k : taped t ≡ (cycle_of s + 1) * length (out_wires d) = taped_is (cycle_of s + 1) st.cycle in
           let same = ap (λ i. step_of K d i cs) ins_is ∙ ap (step_of K d vs) cs_is in
-          let long : cycle_of s * length (out_wires d) ≤ length (vec_items s.tape) = omega (arith, s.tape.ok.0, ready.lent.tape, ready.lent.filled) in
+          let long : cycle_of s * length (out_wires d) ≤ length (vec_items s.tape) = omega (arith, s.tape.ok.0, s.tape_size, s.filled) in
           let outs = (step_of K d vs (vec_items s.cells)).outs in
           let tail = drop (cycle_of s * length (out_wires d) + length (out_wires d)) (vec_items s.tape) in
           let tape_now : tp' ≡ take (cycle_of s * length (out_wires d)) (vec_items s.tape) ++ (outs ++ tail) =
           st.tape ∙ ap (λ o. take (cycle_of s * length (out_wires d)) tp ++ (o.outs ++ drop (cycle_of s * length (out_wires d) + length (out_wires d)) tp)) same ∙ ap (λ t. take (cycle_of s * length (out_wires d)) t ++ (outs ++ drop (cycle_of s * length (out_wires d) + length (out_wires d)) t)) tp_is in
-          let tape_more : take (taped after) (vec_items after.tape) ≡ take (taped s) (vec_items s.tape) ++ outs =
-          ap (λ j. take j (vec_items after.tape)) k ∙ ap (take ((cycle_of s + 1) * length (out_wires d))) (tape_is ∙ tape_now) ∙ grown (vec_items s.tape) outs tail (cycle_of s) (length (out_wires d)) long (length-map (out_wires d) _) in
+          let tape_more : take (taped t) (vec_items t.tape) ≡ take (taped s) (vec_items s.tape) ++ outs =
+          ap (λ j. take j (vec_items t.tape)) k ∙ ap (take ((cycle_of s + 1) * length (out_wires d))) (tape_is ∙ tape_now) ∙ grown (vec_items s.tape) outs tail (cycle_of s) (length (out_wires d)) long (length-map (out_wires d) _) in
           record {
-            lent = lent_is (omega (arith, k, ok.0)) (omega (arith, st.cycle, ok.1, ready.lent.few));
             design = design_is;
-            outputs = refl;
             run = run_is (cycle_of s + 1) _ _ (cells_are ∙ st.cells ∙ ap (λ o. o.cells) same) tape_more st.cycle ∙ sym (ap (λ o. o.run) done);
             cycle = st.cycle;
             answer = ap counted (st.count ∙ ap (λ o. o.count) same) ∙ sym (ap (λ o. o.answer) done);
           }
       told_by (Err e) h kept =
           let done : done_by K u s line ≡ record { run = run_of s; answer = refused (number_of e) } = done_is (number_of e) h ∙ refused_at K d (run_of s) asks e in
-          let cycle_is : run'.cycle ≡ cycle_of s = ap (λ m. m.cycle) kept in
-          let k : taped after ≡ taped s = taped_is (cycle_of s) cycle_is in
+          let cycle_is : cycle_of t ≡ cycle_of s = ap (λ m. m.cycle) kept in
+          let k : taped t ≡ taped s = taped_is (cycle_of s) cycle_is in
           record {
-            lent = lent_is (omega (arith, k, ready.lent.filled)) (omega (arith, cycle_is, ready.lent.few));
             design = design_is;
-            outputs = refl;
-            run = run_is (cycle_of s) _ _ (cells_are ∙ ap (λ m. m.cells) kept ∙ cs_is) (ap (λ j. take j (vec_items after.tape)) k ∙ ap (take (taped s)) (tape_is ∙ ap (λ m. m.tape) kept ∙ tp_is)) cycle_is ∙ sym (ap (λ o. o.run) done);
+            run = run_is (cycle_of s) _ _ (cells_are ∙ ap (λ m. m.cells) kept ∙ cs_is) (ap (λ j. take j (vec_items t.tape)) k ∙ ap (take (taped s)) (tape_is ∙ ap (λ m. m.tape) kept ∙ tp_is)) cycle_is ∙ sym (ap (λ o. o.run) done);
             cycle = cycle_is;
             answer = sym (ap (λ o. o.answer) done);
           }
 
-      pub told_step : (r : Result ℕ CallRefusal) → StepContract K d ins (memory s.run cs tp wk ls) (memory run' cs' tp' wk' ls') r → Told K u s line after r
+      pub told_step : (r : Result ℕ CallRefusal) → StepContract K d ins (memory s.run cs tp wk ls) (memory t.run cs' tp' wk' ls') r → Told K u s line t r
       told_step r c = told_by r c.refusal c.outcome
 
 -- the desk at its start
 
-pub fresh : {V : Type 0} (K : Kind V) (b : Board) (s : Desk V) (cs : List V) (n : ℕ) → start_in (Ok s.run) cs ≡ power K (design_in b) n → board_under s.run ≡ b → s.outputs ≡ length (out_wires (design_in b)) → vec_items s.cells ≡ cs → vec_len s.inputs ≡ in_count (design_in b) → vec_len s.tape ≡ 4096 → vec_len s.work ≡ 1024 → vec_len s.levels ≡ 8 → Fresh K b s
-fresh K b s cs n start board outs cells_are ins tape work levels =
+pub fresh : {V : Type 0} (K : Kind V) (b : Board) (s : Desk V) (cs : List V) (n : ℕ) → start_in (Ok s.run) cs ≡ power K (design_in b) n → board_under s.run ≡ b → vec_items s.cells ≡ cs → Fresh K b s
+fresh K b s cs n start board cells_are =
     let design_is : design_of s ≡ design_in b = ap design_in board in
     let low = begun K (design_in b) cs (cycle_of s) n start in
-    let cycle_is : cycle_of s ≡ 0 = low.1 in
-    let taped_is : taped s ≡ 0 = ap (λ k. k * length (out_wires (design_of s))) cycle_is ∙ zero-mul _ in
+    let taped_is : taped s ≡ 0 = ap (λ k. k * length (out_wires (design_of s))) low.1 ∙ zero-mul _ in
     record {
-      ready = record {
-        lent = record { inputs = ins ∙ ap in_count (sym design_is); tape = tape; work = work; levels = levels; filled = omega (arith, taped_is); few = omega (arith, cycle_is) };
-        outputs = outs ∙ ap (λ d. length (out_wires d)) (sym design_is);
-      };
       design = design_is;
       run = ap (λ x. as_run x (take (taped s) (vec_items s.tape)) (cycle_of s)) cells_are ∙ ap (λ k. as_run cs (take k (vec_items s.tape)) (cycle_of s)) taped_is ∙ ap (λ xs. as_run xs [] (cycle_of s)) low.0 ∙ ap (as_run (replicate (cells (design_in b)) K.low) []) low.1 ∙ ap (λ d. powered K K.low d) (sym design_is);
     }
 
-module _ {V : Type 0} (K : Kind V) (u : V) (s : Desk V) (line : List ℕ) (ready : Ready s) (t : Desk V) where
+module _ {V : Type 0} (K : Kind V) (u : V) (s : Desk V) (line : List ℕ) (t : Desk V) where
   -- what the tape has from the last cycle
-  shown : (n : ℕ) (told : Told K u s line t (Ok n)) (from : ℕ) → from ≡ cycle_of s → take (from * t.outputs + t.outputs - from * t.outputs) (drop (from * t.outputs) (vec_items t.tape)) ≡ drop (length (run_of s).tape) (done_by K u s line).run.tape
-  shown n told from from_is =
+  shown : (n : ℕ) (told : Told K u s line t (Ok n)) (from width : ℕ) → from ≡ cycle_of s → width ≡ length (out_wires (design_of t)) → take (from * width + width - from * width) (drop (from * width) (vec_items t.tape)) ≡ drop (length (run_of s).tape) (done_by K u s line).run.tape
+  shown n told from width from_is width_is =
       let o = length (out_wires (design_of s)) in
-      let outs : t.outputs ≡ o = told.outputs ∙ ready.outputs in
-      let at : from * t.outputs ≡ taped s = ap (λ k. k * t.outputs) from_is ∙ ap (λ k. cycle_of s * k) outs in
-      let long : length (run_of s).tape ≡ taped s = length-take-le (taped s) (vec_items s.tape) (omega (arith, s.tape.ok.0, ready.lent.tape, ready.lent.filled)) in
+      let outs : width ≡ o = width_is ∙ ap (λ d. length (out_wires d)) told.design in
+      let at : from * width ≡ taped s = ap (λ k. k * width) from_is ∙ ap (λ k. cycle_of s * k) outs in
+      let long : length (run_of s).tape ≡ taped s = length-take-le (taped s) (vec_items s.tape) (omega (arith, s.tape.ok.0, s.tape_size, s.filled)) in
       let all : taped t ≡ taped s + o = ap (λ k. k * length (out_wires (design_of t))) told.cycle ∙ ap (λ d. (cycle_of s + 1) * length (out_wires d)) told.design ∙ next_cycle (cycle_of s) o in
-      let width : from * t.outputs + t.outputs - from * t.outputs ≡ o = omega (arith, outs) in
-      ap (λ k. take k (drop (from * t.outputs) (vec_items t.tape))) width ∙ ap (λ k. take o (drop k (vec_items t.tape))) at ∙ sym (drop-take (taped s) o (vec_items t.tape)) ∙ ap (λ k. drop (taped s) (take k (vec_items t.tape))) (sym all) ∙ ap (λ k. drop k (run_of t).tape) (sym long) ∙ ap (λ r. drop (length (run_of s).tape) r.tape) told.run
+      let one : from * width + width - from * width ≡ o = omega (arith, outs) in
+      ap (λ k. take k (drop (from * width) (vec_items t.tape))) one ∙ ap (λ k. take o (drop k (vec_items t.tape))) at ∙ sym (drop-take (taped s) o (vec_items t.tape)) ∙ ap (λ k. drop (taped s) (take k (vec_items t.tape))) (sym all) ∙ ap (λ k. drop k (run_of t).tape) (sym long) ∙ ap (λ r. drop (length (run_of s).tape) r.tape) told.run
 
-  pub answered_step : (n : ℕ) (told : Told K u s line t (Ok n)) (cycle from : ℕ) → cycle ≡ cycle_of s → from ≡ cycle → (items : List V) → items ≡ vec_items t.tape → (was text : List ℕ) → text ≡ was ++ step_line K cycle (take (from * t.outputs + t.outputs - from * t.outputs) (drop (from * t.outputs) items)) n → Answered K u s line t was text
-  answered_step n told cycle from cycle_is from_is items items_are was text e =
-      let slice = ap (λ xs. take (from * t.outputs + t.outputs - from * t.outputs) (drop (from * t.outputs) xs)) items_are ∙ shown n told from (from_is ∙ cycle_is) in
+  pub answered_step : (n : ℕ) (told : Told K u s line t (Ok n)) (cycle from width : ℕ) → cycle ≡ cycle_of s → from ≡ cycle → width ≡ length (out_wires (design_of t)) → (items : List V) → items ≡ vec_items t.tape → (was text : List ℕ) → text ≡ was ++ step_line K cycle (take (from * width + width - from * width) (drop (from * width) items)) n → Answered K u s line t was text
+  answered_step n told cycle from width cycle_is from_is width_is items items_are was text e =
+      let slice = ap (λ xs. take (from * width + width - from * width) (drop (from * width) xs)) items_are ∙ shown n told from width (from_is ∙ cycle_is) width_is in
       record {
-        ready = record { lent = told.lent; outputs = told.outputs ∙ ready.outputs ∙ ap (λ d. length (out_wires d)) (sym told.design) };
         design = told.design;
         run = told.run;
-        printed = e ∙ ap (λ k. was ++ step_line K k (take (from * t.outputs + t.outputs - from * t.outputs) (drop (from * t.outputs) items)) n) cycle_is ∙ ap (λ xs. was ++ step_line K (cycle_of s) xs n) slice ∙ ap (λ a. was ++ answer_line K u (design_of s) (run_of s) (done_by K u s line).run.tape a) told.answer;
+        printed = e ∙ ap (λ k. was ++ step_line K k (take (from * width + width - from * width) (drop (from * width) items)) n) cycle_is ∙ ap (λ xs. was ++ step_line K (cycle_of s) xs n) slice ∙ ap (λ a. was ++ answer_line K u (design_of s) (run_of s) (done_by K u s line).run.tape a) told.answer;
       }
 
   pub answered_refusal : (e : CallRefusal) (told : Told K u s line t (Err e)) (number : ℕ) → number ≡ number_of e → (was text : List ℕ) → text ≡ was ++ refused_line number → Answered K u s line t was text
   answered_refusal e told number number_is was text h =
       record {
-        ready = record { lent = told.lent; outputs = told.outputs ∙ ready.outputs ∙ ap (λ d. length (out_wires d)) (sym told.design) };
         design = told.design;
         run = told.run;
         printed = h ∙ ap (λ n. was ++ refused_line n) number_is ∙ ap (λ a. was ++ answer_line K u (design_of s) (run_of s) (done_by K u s line).run.tape a) told.answer;

@@ -1,5 +1,5 @@
 -- A run with the memory that it is lent.
-use Rattle.std.specs.Prelude.{◌≡◌, ℕ, ◌+◌, ◌*◌, ◌≤◌, List, ◌++◌, length, take, Ok, Err, vec_items, vec_len, Result, MatchResult}
+use Rattle.std.specs.Prelude.{◌≡◌, ℕ, ◌+◌, ◌*◌, List, ◌++◌, length, take, Ok, Err, vec_items, Result, MatchResult}
 use Rattle.signal.specs.Kinds.{Kind}
 use Rattle.rules.specs.Boards.{Design, in_count, out_wires}
 use Rattle.flat.specs.Runs.{Answer, refused, counted, Run, Outcome}
@@ -27,21 +27,8 @@ module _ {V : Type 0} where
   abbrev pub run_of : Desk V → Run V
   run_of s = record { cells = vec_items s.cells; tape = take (taped s) (vec_items s.tape); cycle = cycle_of s }
 
-  -- the memory is as long as it is due
-  pub record Lent (s : Desk V) : Type 0 where
-    pub inputs : vec_len s.inputs ≡ in_count (design_of s)
-    pub tape : vec_len s.tape ≡ 4096
-    pub work : vec_len s.work ≡ 1024
-    pub levels : vec_len s.levels ≡ 8
-    pub filled : taped s ≤ 4096
-    pub few : cycle_of s ≤ 65535
-
-  pub record Ready (s : Desk V) : Type 0 where
-    pub lent : Lent s
-    pub outputs : s.outputs ≡ length (out_wires (design_of s))
-
+  -- the desk of a board at its start
   pub record Fresh (K : Kind V) (b : Board) (s : Desk V) : Type 0 where
-    pub ready : Ready s
     pub design : design_of s ≡ design_in b
     pub run : run_of s ≡ powered K K.low (design_of s)
 
@@ -55,16 +42,13 @@ module _ {V : Type 0} where
 
   -- a step was made on the line
   pub record Told (K : Kind V) (unknown : V) (s : Desk V) (line : List ℕ) (t : Desk V) (r : Result ℕ CallRefusal) : Type 0 where
-    pub lent : Lent t
     pub design : design_of t ≡ design_of s
-    pub outputs : t.outputs ≡ s.outputs
     pub run : run_of t ≡ (done_by K unknown s line).run
     pub cycle : MatchResult r (λ _. cycle_of t ≡ cycle_of s + 1) (λ _. cycle_of t ≡ cycle_of s)
     pub answer : answer_of r ≡ (done_by K unknown s line).answer
 
-  -- the line has its answer in the text, and the desk is ready for the next
+  -- the line has its answer in the text
   pub record Answered (K : Kind V) (unknown : V) (s : Desk V) (line : List ℕ) (t : Desk V) (was text : List ℕ) : Type 0 where
-    pub ready : Ready t
     pub design : design_of t ≡ design_of s
     pub run : run_of t ≡ (done_by K unknown s line).run
     pub printed : text ≡ was ++ answer_line K unknown (design_of s) (run_of s) (done_by K unknown s line).run.tape (done_by K unknown s line).answer

@@ -1,6 +1,7 @@
 // A board that answers the lines of an input.
-ghost use Rattle.std.specs.Prelude.{◌≡◌, ◌++◌, IfOk, vec_len, string_bytes, OnOk};
-ghost use Rattle.transcript.specs.Desks.{Answered, Fresh, Ready, Told, design_of, run_of};
+ghost use Rattle.std.specs.Prelude.{◌≡◌, ◌*◌, ◌≤◌, ◌++◌, length, IfOk, vec_len, string_bytes, OnOk};
+ghost use Rattle.rules.specs.Boards.{in_count, out_wires};
+ghost use Rattle.run.specs.Calls.{run_top};
 ghost use Rattle.transcript.specs.Lines.{lines_of};
 ghost use Rattle.transcript.specs.Sessions.{answers, transcript as transcript_text};
 
@@ -15,16 +16,20 @@ use std::alloc::{AllocError, Global};
 
 const TAPE_VALUES: usize = 4096;
 
-// A run with the memory that it is lent, and how many outputs its board has.
+// A run with the memory that it is lent.
 #[derive(Drop)]
 struct Desk<'b, 'f, K> {
     run: Run<'b, 'f>,
-    outputs: usize,
     inputs: Vec<K>,
     cells: Vec<K>,
     tape: Vec<K>,
     work: Vec<K>,
     levels: Vec<Level>,
+    ghost input_count: { vec_len inputs ≡ in_count (run_top run) },
+    ghost tape_size: { vec_len tape ≡ 4096 },
+    ghost work_size: { vec_len work ≡ 1024 },
+    ghost level_count: { vec_len levels ≡ 8 },
+    ghost filled: { run.cycle * length (out_wires (run_top run)) ≤ 4096 },
 }
 
 fn all_low<K: Signal>(heap: Global, count: usize) -> Result<Vec<K>, AllocError>
@@ -37,6 +42,8 @@ fn all_low<K: Signal>(heap: Global, count: usize) -> Result<Vec<K>, AllocError>
 }
 
 impl<'b, 'f, K: WithUnknown> Desk<'b, 'f, K> {
+    ghost use Rattle.transcript.specs.Desks.{Answered, Fresh, Told, design_of, run_of};
+
     // All cells low.
     fn power(heap: Global, board: &'b Board<'f>) -> Result<Desk<'b, 'f, K>, AllocError>
         ensures { IfOk result (Fresh K.Signal.kind board.now) }
@@ -50,7 +57,6 @@ impl<'b, 'f, K: WithUnknown> Desk<'b, 'f, K> {
         let run = power(board, cells.as_mut_slice()).unwrap();
         Ok(Desk {
             run,
-            outputs: figures.outputs,
             inputs,
             cells,
             tape,
@@ -61,7 +67,6 @@ impl<'b, 'f, K: WithUnknown> Desk<'b, 'f, K> {
 
     // A step on what the line stands for.
     fn step(&mut self, line: &[u8]) -> Result<u32, CallRefusal>
-        requires { Ready self.old }
         ensures { Told K.Signal.kind K.WithUnknown.blank self.old line.now self.new result }
     {
         parse_line(line, self.inputs.as_mut_slice()).ok_or(CallRefusal::Count)?;
@@ -76,14 +81,14 @@ impl<'b, 'f, K: WithUnknown> Desk<'b, 'f, K> {
 
     // Prints the answer to a line.
     fn answer(&mut self, line: &[u8], text: &mut String) -> Result<(), AllocError>
-        requires { Ready self.old }
         ensures { OnOk result (Answered K.Signal.kind K.WithUnknown.blank self.old line.now self.new (string_bytes text.old) (string_bytes text.new)) }
     {
         let cycle = self.run.cycle();
         match self.step(line) {
             Ok(count) => {
-                let at = usize::from(cycle) * self.outputs;
-                let outputs = &self.tape.as_slice()[at..at + self.outputs];
+                let width = self.run.figures().outputs;
+                let at = usize::from(cycle) * width;
+                let outputs = &self.tape.as_slice()[at..at + width];
                 push_step_line(text, cycle, outputs, count)
             }
             Err(refusal) => push_refused_line(text, refusal.number()),
@@ -92,7 +97,6 @@ impl<'b, 'f, K: WithUnknown> Desk<'b, 'f, K> {
 
     // Prints the answers to all lines of an input, and the end.
     fn converse(&mut self, input: &[u8], text: &mut String) -> Result<(), AllocError>
-        requires { Ready self.old }
         ensures { OnOk result (string_bytes text.new ≡ string_bytes text.old ++ answers K.Signal.kind K.WithUnknown.blank (design_of self.old) (run_of self.old) (lines_of input.now)) }
     {
         let mut rest = input;

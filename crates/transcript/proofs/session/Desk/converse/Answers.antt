@@ -17,7 +17,7 @@ loop-rest-preserved g c =
     let rest = c.loop-rest.rest.now in
     let some : 0 < length rest = omega (arith, eqb_apart (length rest) 0 (sym c.loop-rest-test.ensures)) in
     let a = c.in_ok-answer.ensures in
-    (a.ready, a.design ∙ c.loop-rest.invariant.1, answers_more g.K.Signal.kind g.K.WithUnknown.blank c.loop-rest.self rest c.cut_line-cut.result.line.now c.cut_line-cut.result.rest.now c.answer.new.self (string_bytes c.loop-rest.text) (string_bytes c.answer.new.text) some c.cut_line-cut.ensures.line c.cut_line-cut.ensures.rest a ∙ c.loop-rest.invariant.2)
+    (a.design ∙ c.loop-rest.invariant.0, answers_more g.K.Signal.kind g.K.WithUnknown.blank c.loop-rest.self rest c.cut_line-cut.result.line.now c.cut_line-cut.result.rest.now c.answer.new.self (string_bytes c.loop-rest.text) (string_bytes c.answer.new.text) some c.cut_line-cut.ensures.line c.cut_line-cut.ensures.rest a ∙ c.loop-rest.invariant.1)
 
 pub returns : goal.returns
 returns g c =
@@ -25,4 +25,4 @@ returns g c =
     let text = string_bytes c.push_ended_line.new.text in
     let s = c.loop-rest.self in
     let end = answers_none g.K.Signal.kind g.K.WithUnknown.blank s c.loop-rest.rest.now (true-eqb _ _ c.loop-rest-test.ensures) in
-    IfOk-weaker c.push_ended_line.result (λ _. text ≡ t ++ ended_line c.cycle.result) _ (λ _ h. h ∙ ap (λ n. t ++ ended_line n) c.cycle.ensures ∙ ap (λ bs. t ++ bs) (sym end) ∙ c.loop-rest.invariant.2) c.push_ended_line.ensures
+    IfOk-weaker c.push_ended_line.result (λ _. text ≡ t ++ ended_line c.cycle.result) _ (λ _ h. h ∙ ap (λ n. t ++ ended_line n) c.cycle.ensures ∙ ap (λ bs. t ++ bs) (sym end) ∙ c.loop-rest.invariant.1) c.push_ended_line.ensures

@@ -5,9 +5,8 @@ use Rattle.transcript.proofs.session.Desk.power.Goals as goal
 
 pub returns : goal.returns
 returns g c =
-    let f = c.figures-figures.ensures in
     let cs = c.power.new.cells in
     let cells = with_items_is c.in_ok-cells.cells cs (c.power.auto.cells ∙ c.as_mut_slice.ensures.len) in
     let start = rw c.unwrap-run.ensures at c.power.ensures.start in
     let memory = rw c.unwrap-run.ensures at c.power.ensures.memory in
-    fresh g.K.Signal.kind c.args.board.now _ cs _ start memory f.outputs cells (c.in_ok-inputs.ensures ∙ f.inputs) c.in_ok-tape.ensures c.in_ok-work.ensures c.in_ok-levels.ensures.len
+    fresh g.K.Signal.kind c.args.board.now _ cs _ start memory cells

@@ -13,8 +13,10 @@ returns g c =
     let s = c.args.self.now in
     let vs = c.parse_line.new.inputs in
     let line = c.args.line.now in
-    let long = c.as_mut_slice.ensures.len ∙ c.requires.lent.inputs in
+    let long = c.as_mut_slice.ensures.len ∙ s.input_count in
     let some : is_some c.parse_line.result ≡ true = sym c.ok_or.ensures.variant ∙ ap is_ok c.in_ok-ok_or.was in
     let read : Some vs ≡ inputs_of K u (in_count (design_of s)) line = ap (λ b. read_as b vs) (sym some) ∙ c.parse_line.ensures.read ∙ ap (λ n. inputs_of K u n line) long in
     let ins_is = c.as_slice.ensures.value ∙ with_items_is s.inputs vs (c.parse_line.auto.inputs ∙ c.as_mut_slice.ensures.len) in
-    told_step K u s line c.requires vs c.as_slice.result.now c.as_mut_slice-2.result.now c.as_mut_slice-3.result.now c.as_mut_slice-4.result.now c.as_mut_slice-5.result.now read ins_is c.as_mut_slice-2.ensures.value c.as_mut_slice-3.ensures.value c.as_mut_slice-4.ensures.value c.as_mut_slice-5.ensures.value c.step.new.self c.step.new.cells c.step.new.tape c.step.new.work c.step.new.levels c.step.auto.cells c.step.auto.tape c.step.ensures.board c.step.result c.step.ensures.step
+    let cells_are = with_items_is s.cells c.step.new.cells (c.step.auto.cells ∙ c.as_mut_slice-2.ensures.len) in
+    let tape_is = with_items_is s.tape c.step.new.tape (c.step.auto.tape ∙ c.as_mut_slice-3.ensures.len) in
+    told_step K u s line vs c.as_slice.result.now c.as_mut_slice-2.result.now c.as_mut_slice-3.result.now c.as_mut_slice-4.result.now c.as_mut_slice-5.result.now read ins_is c.as_mut_slice-2.ensures.value c.as_mut_slice-3.ensures.value c.as_mut_slice-4.ensures.value c.as_mut_slice-5.ensures.value _ c.step.new.cells c.step.new.tape c.step.new.work c.step.new.levels cells_are tape_is c.step.ensures.board c.step.result c.step.ensures.step
