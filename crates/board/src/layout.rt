@@ -54,6 +54,7 @@ pub struct Rest<'f> {
     ghost short: { length file.now ≤ 32768 },
 }
 
+// Stays: a count of at most 64 is asked of a number, here and of a state list's; a type for it would be read as a number at once.
 impl Rest<'_> {
     fn occurrences(&self, count: usize) -> Result<OccurrenceRecords, Refusal>
         requires { count ≤ 64 }

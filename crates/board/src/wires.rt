@@ -30,6 +30,7 @@ pub struct WireTable {
     pub reach: [u16; 256],
 }
 
+// Stays: at most 16 inputs is asked of a number, here and in three more contracts; a type for it would be made and read once.
 // The module's inputs are driven, and no other wire.
 fn inputs_driven(inputs: u8) -> [bool; 256]
     requires { inputs ≤ 16 }

@@ -49,6 +49,7 @@ pub fn push_step_line<K: Signal>(
     writeln!(text, "{cycle} {outputs} {count}")
 }
 
+// Stays: a number and no refusal, which would ask more of callers.
 pub fn push_refused_line(text: &mut String, number: u8) -> Result<(), AllocError>
     ensures { OnOk result (string_bytes text.new ≡ string_bytes text.old ++ refused_line number) }
 {

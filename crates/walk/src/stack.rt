@@ -25,8 +25,8 @@ pub(crate) struct Walk<'b, 'c, 'w, 'l, K> {
     ghost many: { 8 ≤ length levels.now },
 }
 
-// Stays: that a walk shows a machine is a clause of each method and no ghost field, since it is false between the write of a
-// wire and that of the level's place.
+// Stays: that a walk shows a machine, and has a level, are clauses and no ghost fields: the one is false between the write of a
+// wire and that of the level's place, and the other of a walk that has ended.
 impl<'b, 'c, 'w, 'l, K: Signal> Walk<'b, 'c, 'w, 'l, K> {
     ghost use Rattle.walk.specs.Walks.{last, above, ShownBy, Ready, LaterBy, AfterBy, SameMemory, EnteredAs, LeftAs, RisenAs};
 
