@@ -1,6 +1,6 @@
-use Rattle.std.proofs.Common.{◌≡◌, ◌<◌, ◌++◌, length, string_bytes, sym, ap, ◌∙◌, arith, true-eqb}
+use Rattle.std.proofs.Common.{◌<◌, ◌++◌, length, string_bytes, sym, ap, ◌∙◌, arith, true-eqb}
 use borrow.Author.Tests.{eqb_apart}
-use Rattle.std.proofs.lemmas.Result.{IfOk-weaker}
+use Rattle.std.proofs.lemmas.Result.{IfOk-equal}
 use Rattle.transcript.specs.Printed.{ended_line}
 use Rattle.transcript.proofs.Cutting.{after_falls}
 use Rattle.transcript.proofs.Desking.{answers_more, answers_none}
@@ -25,4 +25,4 @@ returns g c =
     let text = string_bytes c.push_ended_line.new.text in
     let s = c.loop-rest.self in
     let end = answers_none g.K.Signal.kind g.K.WithUnknown.blank s c.loop-rest.rest.now (true-eqb _ _ c.loop-rest-test.ensures) in
-    IfOk-weaker c.push_ended_line.result (λ _. text ≡ t ++ ended_line c.cycle.result) _ (λ _ h. h ∙ ap (λ n. t ++ ended_line n) c.cycle.ensures ∙ ap (λ bs. t ++ bs) (sym end) ∙ c.loop-rest.invariant.1) c.push_ended_line.ensures
+    IfOk-equal c.push_ended_line.result text (t ++ ended_line c.cycle.result) _ c.push_ended_line.ensures (ap (λ n. t ++ ended_line n) c.cycle.ensures ∙ ap (λ bs. t ++ bs) (sym end) ∙ c.loop-rest.invariant.1)
