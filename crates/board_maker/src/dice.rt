@@ -48,6 +48,7 @@ impl Dice {
     // Puts the items into any order.
     pub(crate) fn shuffle<T>(&mut self, items: &mut [T]) {
         let last = items.len().saturating_sub(1);
+        // Stays: each place is swapped with one behind it, so that an item alone is not enough.
         for place in 0..items.len() {
             let other = self.between(place, last);
             items.swap(place, other);

@@ -1,6 +1,7 @@
 // What can stand at an occurrence.
 
 // The gates and the cell; each number is the reference of one.
+// Stays: the library has gates, too; the maker of boards uses no crate of the library that it tests.
 #[derive(Clone, Copy, PartialEq, Eq)]
 pub enum Primitive {
     Low = 0,

@@ -18,6 +18,7 @@ pub fn drive(file: &[u8], switches: &[[bool; 5]; 3]) -> Result<[bool; 3], Troubl
     let mut levels = [Level::new(); LEVEL_RECORDS];
     let mut run = power(&board, &mut cells)?;
     let mut turns = [false; 3];
+    // Stays: after a `zip` over `iter_mut` a proof knows nothing of what was written.
     for (cycle, inputs) in switches.iter().enumerate() {
         run.step(inputs, &mut cells, &mut tape, &mut work, &mut levels)?;
         turns[cycle] = run.look(0, cycle, &cells, &tape)?;

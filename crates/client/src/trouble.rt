@@ -7,6 +7,7 @@ use run::CallRefusal;
 use std::fmt;
 
 // The file is no board, or a call on the run is refused.
+// Stays: the `From` of the kit's derive has no contract, and the clause of `drive` says which trouble a refusal becomes.
 #[derive(Clone, Copy, PartialEq, Eq, Debug)]
 pub enum Trouble {
     File(Refusal),

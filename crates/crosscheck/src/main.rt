@@ -13,7 +13,7 @@ mod view;
 use crate::report::{Difference, Tallies};
 use crate::session::Task;
 use anyhow::anyhow;
-use board::{Figures, Refusal};
+use board::{Board, Figures, Refusal};
 use board_maker::dice::Dice;
 use board_maker::generator::{board_file, deep_board};
 use flat_evaluator::fault::Fault;
@@ -60,7 +60,7 @@ impl fmt::Display for Largest {
     }
 }
 
-// The toggle boards run through all cycles, and on the others there are only calls of all sorts.
+// The toggle boards, 1 and 2 of `board_file`, run through all cycles, and on the others there are only calls of all sorts.
 fn steps_of(number: usize) -> usize {
     match number {
         1 | 2 => ALL_CYCLES,
@@ -110,11 +110,10 @@ impl Comparison {
         let flat = flatten(heap, modules.as_slice())?;
         let figures = figures_of(modules.len(), &flat);
         self.largest.add(&figures);
-        let Ok(judged) = board::judge(file.as_slice()) else {
+        let Ok(board) = Board::read(file.as_slice()) else {
             self.tallies.bits.differ(Difference::Verdict);
             return Ok(());
         };
-        let board = board::seal(judged);
         if board.figures() != figures {
             self.tallies.bits.differ(Difference::Figures);
         }

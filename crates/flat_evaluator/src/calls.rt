@@ -37,6 +37,7 @@ pub struct Room {
 }
 
 // Why a call is refused, by the numbers of the rules for runs.
+// Stays: the library has the same refusals; the flat evaluator shares no code with it.
 #[derive(Clone, Copy, PartialEq, Eq, Debug)]
 pub enum Refusal {
     Count = 13,

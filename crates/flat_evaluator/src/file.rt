@@ -45,6 +45,7 @@ fn numbered(heap: Global, first: usize, wires: &[usize]) -> Result<Vec<usize>, F
     )
 }
 
+// Stays: the library has such a type; the flat evaluator shares no code with it.
 #[derive(Clone, Copy)]
 pub enum Part {
     Gate(Function),

@@ -9,6 +9,7 @@ use std::alloc::Global;
 const MOST_CYCLES: usize = 65_535;
 
 // As many working values and level records as a step has to be handed.
+// Stays: the library has the same two; the flat evaluator shares no code with it.
 const WORKING_VALUES: usize = 1024;
 
 const LEVEL_RECORDS: usize = 8;
@@ -23,7 +24,7 @@ pub struct FlatRun<V> {
 
 impl<V: Value> FlatRun<V> {
     // A cold start is handed the values of its cells, a step its inputs, and a set its value.
-    // Stays: callers rely on the signature, and two runs of one caller share the heap and the board that it hands over.
+    // Stays: a run is its cells, tape and cycle, which its caller makes; heap and board are the caller's, as in the library's calls.
     pub fn call(
         &mut self,
         heap: Global,

@@ -1,4 +1,5 @@
 // The functions of gates.
+// Stays: the library has the same gates; the flat evaluator shares no code with it.
 use crate::fault::Fault;
 
 #[derive(Clone, Copy, PartialEq, Eq, Debug)]

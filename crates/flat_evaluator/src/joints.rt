@@ -4,7 +4,7 @@ use crate::file::Pins;
 use std::alloc::Global;
 
 // For each wire a lower one that it is joined to, itself where it stands for all of them.
-// Stays: a wire has no name but its number, so what is known of each wire is a Vec by that number.
+// Stays: a wire has no name but its number, so what is known of each wire, here and in `Names`, is a Vec by that number.
 #[derive(Drop)]
 pub struct Joints {
     next: Vec<usize>,

@@ -11,6 +11,7 @@ use walk::{LEVEL_RECORDS, Level, WORKING_VALUES, walk};
 
 impl Run<'_, '_> {
     // Puts the outputs on the tape at cycle × O, replaces the cells, and answers how many gates were evaluated.
+    // Stays: a public signature, as those of the other calls: the memory is the caller's, who lends each call what it needs.
     pub fn step<K: Signal>(
         &mut self,
         inputs: &[K],

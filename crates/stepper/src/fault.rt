@@ -9,6 +9,7 @@ pub enum Fault {
     Usage,
     #[error("the tape of a run is too long")]
     TooLong,
+    // Stays: what is printed is the number alone, of either sort of refusal.
     #[error("refused by {0}")]
     Refused(u8),
 }

@@ -19,12 +19,7 @@ pub struct Memory<K> {
 }
 
 fn draw<K: Sample>(heap: Global, stream: &mut Stream, count: usize) -> Result<Vec<K>, AllocError> {
-    // Stays: no proof is made of `map(K::drawn)`, a function of which only the result names `K`.
-    let mut drawn = Vec::new(heap);
-    for word in stream.take(count) {
-        drawn.push(K::drawn(word))?;
-    }
-    Ok(drawn)
+    stream.take(count).map(|word| K::drawn(word)).collect(heap)
 }
 
 impl<K: Sample> Memory<K> {
@@ -50,6 +45,7 @@ impl<K: Sample> Memory<K> {
 
     // As many steps as there are counts, each on the next inputs.
     pub fn step_all(&mut self, run: &mut Run<'_, '_>) -> Result<(), Fault> {
+        // Stays: a board may have no inputs, and no slice has chunks of no values.
         let mut left = self.inputs.as_slice();
         for count in self.counts.iter_mut() {
             let (given, later) = left.split_at_checked(self.width).ok_or(Fault::TooLong)?;

@@ -40,7 +40,7 @@ pub fn run_all<K: Sample>(
     let mut runs = Runs {
         board,
         stream: Stream::new(),
-        totals: Totals::new(),
+        totals: Totals::default(),
     };
     for done in (0..steps).step_by(RUN) {
         let now = steps.saturating_sub(done).min(RUN);

@@ -2,7 +2,7 @@
 use crate::memory::Memory;
 use crate::sample::Sample;
 
-#[derive(Drop)]
+#[derive(Drop, Default)]
 pub struct Totals {
     pub checksum: u64,
     pub count: u64,
@@ -10,14 +10,6 @@ pub struct Totals {
 }
 
 impl Totals {
-    pub fn new() -> Totals {
-        Totals {
-            checksum: 0,
-            count: 0,
-            nanos: 0,
-        }
-    }
-
     fn take(&mut self, value: u64) {
         let mixed = (self.checksum ^ value).wrapping_mul(0x9e37_79b9_7f4a_7c15);
         self.checksum = mixed.rotate_left(29);

@@ -10,6 +10,7 @@ use std::fmt;
 fn output_character<K: Signal>(output: K) -> char
     ensures { result ≡ output_character (K.Signal.kind.told output) }
 {
+    // Stays: a rule of the project: what is told is taken apart by `Some` with a guard and `None`.
     match output.told() {
         Some(bit) if bit => '1',
         Some(_) => '0',
@@ -49,7 +50,7 @@ pub fn push_step_line<K: Signal>(
     writeln!(text, "{cycle} {outputs} {count}")
 }
 
-// Stays: a number and no refusal, which would ask more of callers.
+// Stays: a public signature: a caller may hold the number of either sort of refusal.
 pub fn push_refused_line(text: &mut String, number: u8) -> Result<(), AllocError>
     ensures { OnOk result (string_bytes text.new ≡ string_bytes text.old ++ refused_line number) }
 {

@@ -9,7 +9,7 @@ use crate::printing::{
     push_board_line, push_ended_line, push_kind_line, push_refused_line, push_step_line,
 };
 use crate::reading::{cut_line, parse_line};
-use board::{Board, judge, seal};
+use board::Board;
 use run::{CallRefusal, LEVEL_RECORDS, Level, Run, WORKING_VALUES, power};
 use signal::{Signal, WithUnknown};
 use std::alloc::{AllocError, Global};
@@ -35,10 +35,7 @@ struct Desk<'b, 'f, K> {
 fn all_low<K: Signal>(heap: Global, count: usize) -> Result<Vec<K>, AllocError>
     ensures { IfOk result (λ v. vec_len v ≡ count) }
 {
-    let low = K::low();
-    let mut values = Vec::new(heap);
-    values.resize_with(count, || low)?;
-    Ok(values)
+    Ok(vec![in heap; K::low(); count]?)
 }
 
 impl<'b, 'f, K: WithUnknown> Desk<'b, 'f, K> {
@@ -118,9 +115,8 @@ pub fn transcript<K: WithUnknown>(
     ensures { IfOk result (λ t. string_bytes t ≡ transcript_text K.Signal.kind K.WithUnknown.blank file.now input.now) }
 {
     let mut text = String::new(heap);
-    match judge(file) {
-        Ok(judged) => {
-            let board = seal(judged);
+    match Board::read(file) {
+        Ok(board) => {
             push_kind_line::<K>(&mut text)?;
             let mut desk: Desk<K> = Desk::power(heap, &board)?;
             desk.converse(input, &mut text)?;

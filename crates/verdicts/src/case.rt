@@ -94,9 +94,6 @@ impl<'a> Cases<'a> {
 
 fn read_bases<'a>(heap: Global, bytes: &'a [u8]) -> Result<Vec<&'a [u8]>, Fault> {
     let mut reader = Reader::new(bytes);
-    let mut bases = Vec::new(heap);
-    for _ in 0..reader.number()? {
-        bases.push(reader.block()?)?;
-    }
-    Ok(bases)
+    let count = reader.number()?;
+    (0..count).map(|_| reader.block()).try_collect(heap)
 }

@@ -4,6 +4,7 @@ use std::alloc::{AllocError, Global};
 use std::io;
 
 // The outcomes by their numbers: 0 for an accepted file, and the others for the refusals.
+// Stays: the stored cases name a refusal by its number.
 const NAMES: [&str; 13] = [
     "accepted", "LONG", "CUT", "KIND", "SHAPE", "TRAIL", "REFER", "PINS", "WIRE", "ORDER", "DRIVE",
     "STATE", "SIZE",

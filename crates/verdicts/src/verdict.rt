@@ -38,6 +38,7 @@ impl fmt::Display for Figures {
 }
 
 // The number of a refusal, and the first byte of the record at fault.
+// Stays: the stored cases name a refusal by its number.
 #[derive(Clone, Copy, PartialEq, Eq)]
 pub struct Refused {
     pub number: u8,

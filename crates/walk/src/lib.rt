@@ -21,6 +21,7 @@ pub const WORKING_VALUES: usize = 1024;
 pub const LEVEL_RECORDS: usize = 8;
 
 // Whether so many inputs, cells and outputs are the board's, and so many working values and levels are enough.
+// Stays: a public signature, as that of `walk`: each slice is the caller's own.
 pub fn fits(
     board: &Board,
     inputs: usize,

@@ -25,8 +25,7 @@ pub(crate) struct Walk<'b, 'c, 'w, 'l, K> {
     ghost many: { 8 ≤ length levels.now },
 }
 
-// Stays: that a walk shows a machine, and has a level, are clauses and no ghost fields: the one is false between the write of a
-// wire and that of the level's place, and the other of a walk that has ended.
+// Stays: no ghost fields: a walk shows no machine between the writes of a wire and of its level's place, and has no level at its end.
 impl<'b, 'c, 'w, 'l, K: Signal> Walk<'b, 'c, 'w, 'l, K> {
     ghost use Rattle.walk.specs.Walks.{last, above, ShownBy, Ready, LaterBy, AfterBy, SameMemory, EnteredAs, LeftAs, RisenAs};
 
@@ -93,6 +92,7 @@ impl<'b, 'c, 'w, 'l, K: Signal> Walk<'b, 'c, 'w, 'l, K> {
         let work = &mut *self.work;
         let levels = &mut *self.levels;
         let mut cell = level.cell;
+        // Stays: the level keeps the place in the list, so a loop over the entries would number them and skip to that place.
         for place in level.place..states.len() {
             let o = module.occurrence(states[place] as usize);
             if let Part::Module(number) = o.part {

@@ -8,6 +8,7 @@ use gates::Gate;
 use signal::Signal;
 
 // The value on input `k` of a part, low if it has no such input.
+// Stays: that the wires are there is asked of two slices, here and twice below; a struct of both would be made and read once.
 fn input_value<K: Signal>(wires: &[K], ins: &[u8], k: usize) -> K
     requires { (j : ℕ) → j < length ins.now → slice_index ins.now j < length wires.now }
     ensures { result ≡ input K.Signal.kind (map (λ w. get_or wires.now w K.Signal.kind.low) ins.now) k }
@@ -78,6 +79,7 @@ pub(crate) fn deliver<K: Signal>(work: &[K], outs: &[u8], outputs: &mut [K])
     requires reads { (j : ℕ) → j < length outs.now → slice_index outs.now j < length work.now }
     ensures { outputs.new ≡ map (λ w. get_or work.now w K.Signal.kind.low) outs.now }
 {
+    // Stays: after a `zip` over `iter_mut` a proof knows nothing of what was written.
     for (k, output) in outputs.iter_mut().enumerate() {
         *output = work[outs[k] as usize];
     }
