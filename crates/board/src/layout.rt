@@ -24,6 +24,7 @@ pub struct ModuleRecords {
     pub occurrences: OccurrenceRecords,
 }
 
+// Stays: an array with its count beside it, since judging allocates nothing.
 #[derive(Clone, Copy)]
 pub struct Layout {
     pub count: usize,

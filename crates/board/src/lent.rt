@@ -5,6 +5,7 @@ use crate::layout::ModuleRecords;
 use crate::tables::Judged;
 
 // The file, the records of its modules, and where the cells of each occurrence begin among its module's.
+// Stays: two arrays by module, as they lie in the judged file; the fields are public.
 #[derive(Clone, Copy)]
 pub struct Tables<'b> {
     pub file: &'b [u8],

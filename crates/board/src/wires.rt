@@ -23,7 +23,7 @@ pub fn all_below(pins: &[u8], limit: u8) -> bool
 }
 
 // What is known of a module's wires: which are driven, and which of its inputs reach them.
-// Stays: two arrays by wire; of one array of pairs, the driven could be neither filled nor tested as a slice.
+// Stays: two arrays by wire: driving changes the one and reaching the other, and the driven are filled as a slice.
 #[derive(Clone, Copy)]
 pub struct WireTable {
     pub driven: [bool; 256],
