@@ -1,5 +1,6 @@
 -- What the tables of records hold.
 use Rattle.std.specs.Prelude.{◌≡◌, ℕ, ◌<◌, ◌≤◌, List, [], length, slice_index, slice_index_or}
+use Rattle.std.proofs.Common.{arith}
 use Rattle.rules.specs.Refusals.{accepted}
 use Rattle.rules.specs.Records.{end_of, body, after, read, uses, occurrence_shape, module_shape, module_at, module_count}
 use Rattle.board.specs.declared.layout.OccurrenceRecords.{OccurrenceRecords}
@@ -23,7 +24,7 @@ pub record ModuleOf (f : List ℕ) (at : ℕ) (m : ModuleRecords) : Type 0 where
 
 abbrev pub no_records : ModuleRecords
 no_records =
-    record { place = 0; counts = record { inputs = 0; outputs = 0; wires = 0; occurrences = 0; states = 0 }; occurrences = record { starts = []; end = 0 } }
+    record { place = 0; counts = record { inputs = 0; outputs = 0; wires = 0; occurrences = 0; states = 0; few_inputs = omega arith; few_occurrences = omega arith }; occurrences = record { starts = []; end = 0 } }
 
 -- the n modules from `at` on, which end the file
 abbrev pub ModulesOf : (f : List ℕ) (at n : ℕ) → List ModuleRecords → Type 0

@@ -4,9 +4,8 @@ ghost use Rattle.rules.specs.Refusals.{Judges};
 ghost use Rattle.rules.specs.Records.{occurrences_read, module_read, modules_read, records_read};
 ghost use Rattle.board.specs.Layouts.{OccurrencesOf, ModuleOf, ModulesOf, LayoutOf};
 
-use crate::records::{
-    Counts, RecordKind, parse_board, parse_module, parse_occurrence, read_record,
-};
+use crate::counts::Counts;
+use crate::records::{RecordKind, parse_board, parse_module, parse_occurrence, read_record};
 use rules::Refusal;
 
 // Where the records of a module's occurrences begin, and where the last of them ends.
@@ -55,15 +54,13 @@ pub struct Rest<'f> {
     ghost short: { length file.now ≤ 32768 },
 }
 
-// Stays: a count of at most 64 is asked of a number, here and of a state list's; a type for it would be read as a number at once.
 impl Rest<'_> {
-    fn occurrences(&self, count: usize) -> Result<OccurrenceRecords, Refusal>
-        requires { count ≤ 64 }
-        ensures { Judges result (occurrences_read self.now.file.now self.now.at count) (OccurrencesOf self.now.file.now self.now.at count) }
+    fn occurrences(&self, counts: Counts) -> Result<OccurrenceRecords, Refusal>
+        ensures { Judges result (occurrences_read self.now.file.now self.now.at counts.occurrences) (OccurrencesOf self.now.file.now self.now.at counts.occurrences) }
     {
         let mut starts = [0u16; 64];
         let mut at = self.at;
-        for start in starts[..count].iter_mut() {
+        for start in starts[..counts.occurrences as usize].iter_mut() {
             let record = read_record(self.file, at, RecordKind::Occurrence)?;
             parse_occurrence(record.body, record.place)?;
             *start = at as u16;
@@ -81,7 +78,7 @@ impl Rest<'_> {
             file: self.file,
             at: self.at + 4 + record.body.len(),
         };
-        let occurrences = behind.occurrences(counts.occurrences as usize)?;
+        let occurrences = behind.occurrences(counts)?;
         Ok(ModuleRecords {
             place: self.at,
             counts,

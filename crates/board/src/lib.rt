@@ -2,6 +2,7 @@
 #![tactic(auto)]
 
 mod board;
+mod counts;
 mod current;
 mod figures;
 mod judging;

@@ -9,9 +9,10 @@ ghost use Rattle.board.specs.Summaries.{Described};
 ghost use Rattle.board.specs.Tallies.{TallyOf, ListsOf, StartsOf, Summed, within_limits};
 ghost use Rattle.board.specs.Current.{file_under, place, unit, seen};
 
+use crate::counts::Counts;
 use crate::current::Current;
 use crate::layout::ModuleRecords;
-use crate::records::{Counts, RecordKind, read_record};
+use crate::records::{RecordKind, read_record};
 use crate::tables::{Found, Summary};
 use crate::wires::{WireTable, all_below, cell_starts, states_right};
 use rules::Refusal;
@@ -28,14 +29,13 @@ pub struct Tally {
 
 impl Tally {
     // The tally of no occurrences.
-    fn of_inputs(inputs: u8) -> Tally
-        requires { inputs ≤ 16 }
-        ensures driven { (w : ℕ) → driven_by result.wires.driven w ≡ nat_lt w inputs }
-        ensures reach { (w x : ℕ) → reaches result.wires.reach w x ≡ (nat_lt w inputs && w == x) }
+    fn of_inputs(counts: Counts) -> Tally
+        ensures driven { (w : ℕ) → driven_by result.wires.driven w ≡ nat_lt w counts.inputs }
+        ensures reach { (w x : ℕ) → reaches result.wires.reach w x ≡ (nat_lt w counts.inputs && w == x) }
         ensures counts { result ≡ record { wires = result.wires; sizes = replicate 64 0; cells = 0; depth = 0; places = 0 } }
     {
         Tally {
-            wires: WireTable::of_inputs(inputs),
+            wires: WireTable::of_inputs(counts),
             sizes: [0; 64],
             cells: 0,
             depth: 0,
@@ -90,14 +90,15 @@ impl<'f> Current<'_, 'f> {
     fn records(&self) -> ModuleRecords
         ensures { ModuleOf (file_under self.now) (place self.now) result }
     {
-        self.judged.modules[self.number]
+        let modules = &self.judged.modules;
+        modules[self.number]
     }
 
     fn judge_occurrences(&self) -> Result<Tally, Refusal>
         ensures { Judges result (occurrences_judged (seen self.now) (unit self.now).wires (λ w. nat_lt w (unit self.now).inputs) (unit self.now).placed) (TallyOf (seen self.now) (unit self.now)) }
     {
         let m = self.records();
-        let mut tally = Tally::of_inputs(m.counts.inputs);
+        let mut tally = Tally::of_inputs(m.counts);
         let starts = &m.occurrences.starts[..m.counts.occurrences as usize];
         for (i, start) in starts.iter().enumerate() {
             let part = self.judge_occurrence(*start as usize, m.counts.wires, &mut tally.wires)?;

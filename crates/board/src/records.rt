@@ -4,6 +4,7 @@ ghost use Rattle.rules.specs.Refusals.{Judges, asked};
 ghost use Rattle.rules.specs.Records.{number_at, framed, board_shape, module_shape, occurrence_shape};
 ghost use Rattle.board.specs.Bodies.{kind_number, RecordOf, CountsOf, OccurrenceOf};
 
+use crate::counts::Counts;
 use rules::Refusal;
 
 #[derive(Clone, Copy)]
@@ -65,39 +66,28 @@ pub fn parse_board(body: &[u8], place: usize) -> Result<usize, Refusal>
     Ok(count)
 }
 
-// What a module's record counts.
-#[derive(Clone, Copy)]
-pub struct Counts {
-    pub inputs: u8,
-    pub outputs: u8,
-    pub wires: u8,
-    pub occurrences: u8,
-    pub states: u8,
-}
-
 pub fn parse_module(body: &[u8], place: usize) -> Result<Counts, Refusal>
     ensures { Judges result (asked (module_shape body.now) (Refusal.Shape place)) (CountsOf body.now) }
 {
     let [inputs, outputs, wires, occurrences, states, ..] = body else {
         return Err(Refusal::Shape { place });
     };
-    let c = Counts {
+    if *inputs > 16 || *outputs > 16 || *wires < *inputs || *wires > 128 {
+        return Err(Refusal::Shape { place });
+    }
+    if *occurrences > 64 || *states > *occurrences {
+        return Err(Refusal::Shape { place });
+    }
+    if body.len() != 5 + *outputs as usize + *states as usize {
+        return Err(Refusal::Shape { place });
+    }
+    Ok(Counts {
         inputs: *inputs,
         outputs: *outputs,
         wires: *wires,
         occurrences: *occurrences,
         states: *states,
-    };
-    if c.inputs > 16 || c.outputs > 16 || c.wires < c.inputs || c.wires > 128 {
-        return Err(Refusal::Shape { place });
-    }
-    if c.occurrences > 64 || c.states > c.occurrences {
-        return Err(Refusal::Shape { place });
-    }
-    if body.len() != 5 + c.outputs as usize + c.states as usize {
-        return Err(Refusal::Shape { place });
-    }
-    Ok(c)
+    })
 }
 
 // An occurrence's record: its reference number and its wires.

@@ -6,6 +6,7 @@ ghost use Rattle.rules.specs.Judging.{times_due};
 ghost use Rattle.rules.specs.Boards.{ahead};
 ghost use Rattle.board.specs.WireTables.{bit, driven_by, reaches, fill, size_in};
 
+use crate::counts::Counts;
 use rules::Refusal;
 
 // Whether input `k` is in the set `mask`.
@@ -30,24 +31,21 @@ pub struct WireTable {
     pub reach: [u16; 256],
 }
 
-// Stays: at most 16 inputs is asked of a number, here and in three more contracts; a type for it would be made and read once.
 // The module's inputs are driven, and no other wire.
-fn inputs_driven(inputs: u8) -> [bool; 256]
-    requires { inputs ≤ 16 }
-    ensures { (w : ℕ) → driven_by result w ≡ nat_lt w inputs }
+fn inputs_driven(counts: Counts) -> [bool; 256]
+    ensures { (w : ℕ) → driven_by result w ≡ nat_lt w counts.inputs }
 {
     let mut driven = [false; 256];
-    driven[..inputs as usize].fill(true);
+    driven[..counts.inputs as usize].fill(true);
     driven
 }
 
 // Each input reaches itself.
-fn inputs_reach(inputs: u8) -> [u16; 256]
-    requires { inputs ≤ 16 }
-    ensures { (w x : ℕ) → reaches result w x ≡ (nat_lt w inputs && w == x) }
+fn inputs_reach(counts: Counts) -> [u16; 256]
+    ensures { (w x : ℕ) → reaches result w x ≡ (nat_lt w counts.inputs && w == x) }
 {
     let mut reach = [0; 256];
-    for (i, set) in reach[..inputs as usize].iter_mut().enumerate() {
+    for (i, set) in reach[..counts.inputs as usize].iter_mut().enumerate() {
         *set = 1 << i;
     }
     reach
@@ -55,14 +53,13 @@ fn inputs_reach(inputs: u8) -> [u16; 256]
 
 impl WireTable {
     // The wires ahead of the module's first occurrence.
-    pub fn of_inputs(inputs: u8) -> WireTable
-        requires { inputs ≤ 16 }
-        ensures driven { (w : ℕ) → driven_by result.driven w ≡ nat_lt w inputs }
-        ensures reach { (w x : ℕ) → reaches result.reach w x ≡ (nat_lt w inputs && w == x) }
+    pub fn of_inputs(counts: Counts) -> WireTable
+        ensures driven { (w : ℕ) → driven_by result.driven w ≡ nat_lt w counts.inputs }
+        ensures reach { (w x : ℕ) → reaches result.reach w x ≡ (nat_lt w counts.inputs && w == x) }
     {
         WireTable {
-            driven: inputs_driven(inputs),
-            reach: inputs_reach(inputs),
+            driven: inputs_driven(counts),
+            reach: inputs_reach(counts),
         }
     }
 

@@ -48,7 +48,8 @@ impl<'b> Module<'b> {
     pub(crate) fn records(self) -> &'b ModuleRecords
         ensures { RecordsOf (board_in self.entry.tables) self.entry.number result.now }
     {
-        &self.tables.modules[self.number]
+        let modules = self.tables.modules;
+        &modules[self.number]
     }
 
     // Where the cells of an occurrence begin among the module's.

@@ -1,7 +1,6 @@
 use Rattle.std.proofs.Common.{◌≡◌, ◌+◌, ◌-◌, ◌<◌, ◌≢◌, length, replicate, sym, refl, ap, ◌∙◌, subst, arith, length-set, get_or-set_other, get_or-set_same, below_more}
 use Rattle.std.proofs.lemmas.List.{length-take-le}
 use Rattle.std.proofs.Math.ListN.{get_or-append}
-use Rattle.board.specs.declared.layout.TheConstants.{NO_RECORDS}
 use Rattle.board.specs.Layouts.{ModuleOf, no_records}
 use Rattle.std.proofs.lemmas.Result.{err_from_is_err_and}
 use Rattle.rules.specs.Records.{module_end, module_at, modules_read}
@@ -12,7 +11,7 @@ use Rattle.board.proofs.layout.Rest.modules.Goals as goal
 
 pub loop-module-init : goal.loop-module-init
 unfolding module_at
-loop-module-init c = (refl, c.args.self.now.inside, length-take-le c.args.count (replicate 64 NO_RECORDS) (omega arith), λ j h. absurd (omega arith), ap (modules_read c.args.self.now.file.now c.args.self.now.at) (omega arith))
+loop-module-init c = (refl, c.args.self.now.inside, length-take-le c.args.count (replicate 64 _) (omega arith), λ j h. absurd (omega arith), ap (modules_read c.args.self.now.file.now c.args.self.now.at) (omega arith))
 
 pub returns-in_err-module : goal.returns-in_err-module
 returns-in_err-module c =
