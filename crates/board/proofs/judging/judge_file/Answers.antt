@@ -22,13 +22,6 @@ loop-k-init c =
       λ j a b. absurd (omega arith),
     )
 
-pub invariant_of-current : goal.invariant_of-current
-invariant_of-current c =
-    let z : c.loop-k.k - 1 + 1 ≡ c.loop-k.k = omega arith in
-    let j = c.loop-k.invariant.2 in
-    let n = j.count ∙ ap module_count c.loop-k.invariant.0 ∙ sym c.in_ok-layout.ensures.1.count in
-    record { behind = subst (JudgedFrom c.loop-k.b) (sym z) j; within = omega (arith, n, c.loop-k.auto.k) }
-
 pub returns-in_err-summary : goal.returns-in_err-summary
 returns-in_err-summary c =
     let p = err_from_is_err_and c.from_residual-in_err-summary.result c.from_residual-in_err-summary.ensures.1 in

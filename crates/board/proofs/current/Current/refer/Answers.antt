@@ -31,8 +31,3 @@ pub returns-in-Some-Cell : goal.returns-in-Some-Cell
 returns-in-Some-Cell c =
     let below = seen c.args.self.now in
     subst (Found below c.args.place (Ok c.cell_summary.result)) (ap Some (sym c.in-Some-Cell.field-0-is) ∙ c.in-Some-Cell.ensures) (refl, c.cell_summary.ensures below)
-
-pub returns-in-Some-Module : goal.returns-in-Some-Module
-returns-in-Some-Module c =
-    let below = seen c.args.self.now in
-    subst (Found below c.args.place c.module_summary.result) (ap Some (sym c.in-Some-Module.field-0-is) ∙ c.in-Some-Module.ensures) (of_described below c.in-Some-Module.number c.args.place c.module_summary.result c.module_summary.ensures)

@@ -6,17 +6,11 @@ use Rattle.walk.proofs.stack.Walk.run.Given.{Over}
 use Rattle.walk.proofs.stack.Walk.run.Goals.{In-loop-self}
 use Rattle.walk.proofs.stack.Walk.run.Goals as goal
 
-pub loop-self-init : goal.loop-self-init
-loop-self-init g c = record { same = record { top = refl; cells = refl; work = refl; levels = refl }; runs = λ M s. (M, s, refl) }
-
 -- the walk is ready for a turn
 ready : (g : Over) (c : In-loop-self g) → Ready g.K.Signal.kind c.loop-self.self
 ready g c =
     let n = c.loop-self.invariant.runs c.requires.0 c.requires.1 in
     (n.0, n.1, omega (arith, ap (λ r. r.count) n.2, c.requires.2))
-
-pub turn-requires : goal.turn-requires
-turn-requires g c = record { some = c.loop-self-test.true; shown = ready g (goal.at.turn-requires g c).In-loop-self }
 
 pub loop-self-smaller : goal.loop-self-smaller
 loop-self-smaller g c =
