@@ -1,4 +1,4 @@
-use Rattle.std.proofs.Common.{ap, ◌∙◌, refl, arith}
+use Rattle.std.proofs.Common.{ap, ◌∙◌, arith}
 use Rattle.walk.specs.Walks.{Ready}
 use Rattle.walk.proofs.Goes
 use Rattle.walk.proofs.LoopStates.{fewer_left}
