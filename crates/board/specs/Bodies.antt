@@ -5,8 +5,8 @@ use Rattle.rules.specs.Judging.{occurrence_in}
 use Rattle.board.specs.declared.records.RecordKind.{RecordKind}
 use Rattle.board.specs.declared.records.RecordKind.TheVariants.{Board, Module, Occurrence as OccurrenceKind}
 use Rattle.board.specs.declared.records.Record.{Record}
-use Rattle.board.specs.declared.counts.Counts.{Counts}
-use Rattle.board.specs.declared.records.Occurrence.{Occurrence}
+use Rattle.board.specs.declared.bodies.Counts.{Counts}
+use Rattle.board.specs.declared.bodies.Occurrence.{Occurrence}
 
 abbrev pub kind_number : RecordKind → ℕ
 kind_number Board = 1

@@ -6,7 +6,7 @@ use Rattle.rules.specs.Records.{end_of, uses, module_at}
 use Rattle.rules.specs.Judging.{PlacedModule, unit_no, module_of, occurrences_of, seen_from}
 use Rattle.board.specs.WireTables.{driven_by, reaches}
 use Rattle.board.specs.Summaries.{file_of}
-use Rattle.board.specs.declared.counts.Counts.{Counts}
+use Rattle.board.specs.declared.bodies.Counts.{Counts}
 use Rattle.board.specs.declared.tables.Summary.{Summary}
 use Rattle.board.specs.declared.tables.Judged.{Judged}
 use Rattle.board.specs.declared.modules.Tally.{Tally}

@@ -4,7 +4,7 @@ ghost use Rattle.rules.specs.Refusals.{Judges};
 ghost use Rattle.rules.specs.Records.{occurrences_read, module_read, modules_read, records_read};
 ghost use Rattle.board.specs.Layouts.{OccurrencesOf, ModuleOf, ModulesOf, LayoutOf};
 
-use crate::counts::Counts;
+use crate::bodies::Counts;
 use crate::records::{RecordKind, parse_board, parse_module, parse_occurrence, read_record};
 use rules::Refusal;
 

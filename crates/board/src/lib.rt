@@ -2,7 +2,7 @@
 #![tactic(auto)]
 
 mod board;
-mod counts;
+mod bodies;
 mod current;
 mod figures;
 mod judging;

@@ -9,7 +9,7 @@ ghost use Rattle.board.specs.Summaries.{Described};
 ghost use Rattle.board.specs.Tallies.{TallyOf, ListsOf, StartsOf, Summed, within_limits};
 ghost use Rattle.board.specs.Current.{file_under, place, unit, seen};
 
-use crate::counts::Counts;
+use crate::bodies::Counts;
 use crate::current::Current;
 use crate::layout::ModuleRecords;
 use crate::records::{RecordKind, read_record};

@@ -10,8 +10,9 @@ ghost use Rattle.board.specs.WireTables.{bit, driven_by, reaches};
 ghost use Rattle.board.specs.Summaries.{SummaryOf, Described, reach_on};
 ghost use Rattle.board.specs.Current.{file_under, seen};
 
+use crate::bodies::Occurrence;
 use crate::current::Current;
-use crate::records::{Occurrence, RecordKind, parse_occurrence, read_record};
+use crate::records::{RecordKind, parse_occurrence, read_record};
 use crate::tables::Summary;
 use crate::wires::{WireTable, all_below};
 use gates::{Gate, Part};
@@ -48,7 +49,6 @@ fn connect(
     place: usize,
     table: &mut WireTable,
 ) -> Result<(), Refusal>
-    requires { (length o.ins.now ≤ 16) × (length o.outs.now ≤ 16) }
     ensures answer { Judges result (pins_judged summary.inputs summary.outputs (picked (bit summary.through) o.entry.ins.now) wires (driven_by table.old.driven) place o.entry.ins.now o.entry.outs.now) (λ _. driven_by table.new.driven ≡ drive o.entry.outs.now (driven_by table.old.driven)) }
     ensures reach { table.new.reach ≡ table.old.reach }
 {

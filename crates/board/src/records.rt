@@ -4,7 +4,7 @@ ghost use Rattle.rules.specs.Refusals.{Judges, asked};
 ghost use Rattle.rules.specs.Records.{number_at, framed, board_shape, module_shape, occurrence_shape};
 ghost use Rattle.board.specs.Bodies.{kind_number, RecordOf, CountsOf, OccurrenceOf};
 
-use crate::counts::Counts;
+use crate::bodies::{Counts, Occurrence};
 use rules::Refusal;
 
 #[derive(Clone, Copy)]
@@ -88,14 +88,6 @@ pub fn parse_module(body: &[u8], place: usize) -> Result<Counts, Refusal>
         occurrences: *occurrences,
         states: *states,
     })
-}
-
-// An occurrence's record: its reference number and its wires.
-#[derive(Clone, Copy)]
-pub struct Occurrence<'f> {
-    pub reference: u16,
-    pub ins: &'f [u8],
-    pub outs: &'f [u8],
 }
 
 pub fn parse_occurrence<'f>(body: &'f [u8], place: usize) -> Result<Occurrence<'f>, Refusal>

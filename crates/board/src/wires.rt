@@ -6,7 +6,7 @@ ghost use Rattle.rules.specs.Judging.{times_due};
 ghost use Rattle.rules.specs.Boards.{ahead};
 ghost use Rattle.board.specs.WireTables.{bit, driven_by, reaches, fill, size_in};
 
-use crate::counts::Counts;
+use crate::bodies::Counts;
 use rules::Refusal;
 
 // Whether input `k` is in the set `mask`.
