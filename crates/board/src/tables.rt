@@ -13,8 +13,8 @@ pub struct Summary {
 }
 
 // A file with its records, what was found of its modules, and where the cells of each occurrence begin among its module's.
-// Stays: three arrays by module: all records are read before any module is judged, and Tables, which is public, lends the starts
-// as one array. Their count stands beside them, since judging allocates nothing.
+// Stays: three arrays by module: all records are read before any module is judged, and Tables, which is public, lends
+// the starts as one array. Their count stands beside them, since judging allocates nothing.
 #[derive(Drop)]
 pub struct Judged<'f> {
     pub(crate) file: &'f [u8],
