@@ -138,6 +138,7 @@ fn stands_as_due(states: &[u8], i: usize, size: u16) -> bool
     times_in(states, i) == times_due(size)
 }
 
+// Stays: the sizes with their count beside them; cut to it, they would need the same bound, and a cast of their length.
 pub fn states_right(states: &[u8], sizes: &[u16; 64], count: u8) -> bool
     requires { count ≤ 64 }
     ensures { result ≡ (all (λ s. nat_lt s count) states.now && every count (λ i. nat_eq (times i states.now) (times_due (slice_index sizes.now i)))) }
