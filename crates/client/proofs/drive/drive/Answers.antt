@@ -10,10 +10,6 @@ use Rattle.run.proofs.Starts.{begun}
 use Rattle.client.proofs.Turns.{seen, once_more, all_found}
 use Rattle.client.proofs.drive.drive.Goals as goal
 
-pub loop-cycle-init : goal.loop-cycle-init
-loop-cycle-init c =
-    (c.power.auto.cells, refl, refl, refl, refl, refl, (begun bits (design_in c.seal-board.result) c.power.new.cells _ _ c.in_ok-run.ensures.start).1, refl)
-
 pub loop-cycle-preserved : goal.loop-cycle-preserved
 loop-cycle-preserved c =
     let inv = c.loop-cycle.invariant in

@@ -1,5 +1,5 @@
-use Rattle.std.proofs.Common.{◌≡◌, ℕ, ◌+◌, ◌<◌, List, [], ◌∷◌, ◌++◌, map, length, get_or, take, drop, set, sym, ap, ◌∙◌, append_assoc, append-nil, add-one, arith, drop-cons}
-use Rattle.std.proofs.lemmas.List.{get_or_read, map_more, set_at, length-map, length-take-le, take_all, drop_all}
+use Rattle.std.proofs.Common.{◌≡◌, ℕ, ◌+◌, ◌<◌, List, [], ◌∷◌, ◌++◌, map, length, get_or, take, drop, set, sym, ap, ◌∙◌, append_assoc, add-one, arith, drop-cons}
+use Rattle.std.proofs.lemmas.List.{get_or_read, map_more, set_at, length-map, length-take-le}
 use Rattle.walk.proofs.windows.deliver.Goals as goal
 
 filled_more : {X Y : Type 0} (f : X → Y) (ps : List X) (d : X) (out old : List Y) (j : ℕ) (v e : Y) → j < length ps → j < length old → v ≡ f (get_or ps j d) → out ≡ map f (take j ps) ++ drop j old → set out j v ≡ map f (take (j + 1) ps) ++ drop (j + 1) old
@@ -21,13 +21,3 @@ loop-k-preserved g c =
     let h : j < length c.args.outs.now = omega arith in
     let r = get_or_read w (get_or c.args.outs.now j 0) x (c.requires.reads j h) c.index-work-outs.is low in
     filled_more (λ p. get_or w p low) c.args.outs.now 0 c.loop-k.outputs c.args.outputs.now j x low h (omega arith) r c.loop-k.invariant
-
-pub returns : goal.returns
-returns g c =
-    let f : ℕ → g.row.K.Denot = λ w. get_or c.args.work.now w g.K.Signal.kind.low in
-    let t = take_all c.loop-k.k c.args.outs.now (omega arith) in
-    let d = drop_all c.loop-k.k c.args.outputs.now (omega arith) in
-    c.loop-k.invariant
-    ∙ ap (λ x. map f x ++ drop c.loop-k.k c.args.outputs.now) t
-    ∙ ap (λ x. map f c.args.outs.now ++ x) d
-    ∙ append-nil (map f c.args.outs.now)
