@@ -26,25 +26,6 @@ pub struct Pins {
     pub outputs: Vec<usize>,
 }
 
-impl Pins {
-    // The same wires where the module's wires are numbered from the first on.
-    pub(crate) fn numbered_from(&self, heap: Global, first: usize) -> Result<Pins, Fault> {
-        Ok(Pins {
-            inputs: numbered(heap, first, self.inputs.as_slice())?,
-            outputs: numbered(heap, first, self.outputs.as_slice())?,
-        })
-    }
-}
-
-fn numbered(heap: Global, first: usize, wires: &[usize]) -> Result<Vec<usize>, Fault> {
-    Ok(
-        wires
-            .iter()
-            .map(|wire| first.saturating_add(*wire))
-            .collect(heap)?,
-    )
-}
-
 // Stays: the library has such a type; the flat evaluator shares no code with it.
 #[derive(Clone, Copy)]
 pub enum Part {
@@ -53,14 +34,12 @@ pub enum Part {
     Module(usize),
 }
 
-impl TryFrom<u16> for Part {
-    type Error = Fault;
-
-    fn try_from(reference: u16) -> Result<Part, Fault> {
+impl From<u16> for Part {
+    fn from(reference: u16) -> Part {
         match reference {
-            11 => Ok(Part::Cell),
-            256.. => Ok(Part::Module(usize::from(reference - 256))),
-            _ => Ok(Part::Gate(Function::try_from(reference)?)),
+            11 => Part::Cell,
+            256.. => Part::Module(usize::from(reference - 256)),
+            _ => Part::Gate(Function::from(reference)),
         }
     }
 }
@@ -141,7 +120,7 @@ impl<'a> Reader<'a> {
 
     fn occurrence(&mut self) -> Result<Use, Fault> {
         self.head(Record::Use)?;
-        let part = Part::try_from(self.pair()?)?;
+        let part = Part::from(self.pair()?);
         let [inputs, outputs] = self.bytes::<2>()?;
         Ok(Use {
             part,

@@ -1,36 +1,23 @@
 // A flat board: gates and cells on wires.
 use crate::fault::Fault;
 use crate::function::Function;
-use crate::joints::Names;
 use std::alloc::Global;
 
-#[derive(Drop)]
+// Stays: the wires beside their count: a gate can be copied, and a list of wires on the heap cannot.
+#[derive(Clone, Copy)]
 pub struct Gate {
     pub function: Function,
-    pub inputs: Vec<usize>,
+    pub pins: usize,
+    pub wires: [usize; 3],
     pub output: usize,
     // How many modules below the top, on the way to it, hold cells.
     pub holders: usize,
-}
-
-impl Gate {
-    pub(crate) fn rename(&mut self, names: &Names) {
-        names.rename(self.inputs.as_mut_slice());
-        self.output = names.of(self.output);
-    }
 }
 
 #[derive(Clone, Copy)]
 pub struct Cell {
     pub input: usize,
     pub output: usize,
-}
-
-impl Cell {
-    pub(crate) fn rename(&mut self, names: &Names) {
-        self.input = names.of(self.input);
-        self.output = names.of(self.output);
-    }
 }
 
 #[derive(Drop)]
@@ -40,9 +27,9 @@ pub struct Flat {
     pub gates: Vec<Gate>,
     // In the order of the state lists.
     pub cells: Vec<Cell>,
-    // For each wire the gates that read it.
+    // For each wire the gates that read it, once for each pin.
     // Stays: a wire and a gate have no names but their numbers, which are the places of the two lists.
-    pub(crate) readers: Vec<Vec<usize>>,
+    pub readers: Vec<Vec<usize>>,
     pub places: usize,
     pub depth: usize,
 }
@@ -60,10 +47,6 @@ impl Flat {
         cycles.saturating_mul(self.outputs.len())
     }
 
-    pub(crate) fn readers(&self, wire: usize) -> &[usize] {
-        self.readers.get(wire).map_or(&[], |list| list.as_slice())
-    }
-
     // For each of so many wires, how many inputs, gates and cells drive it.
     pub fn drivers(&self, heap: Global, wires: usize) -> Result<Vec<usize>, Fault> {
         let mut drivers = vec![in heap; 0usize; wires]?;
@@ -79,11 +62,7 @@ impl Flat {
     }
 }
 
-pub(crate) fn readers_of(
-    heap: Global,
-    gates: &[Gate],
-    wires: usize,
-) -> Result<Vec<Vec<usize>>, Fault> {
+pub fn readers_of(heap: Global, gates: &[Gate], wires: usize) -> Result<Vec<Vec<usize>>, Fault> {
     let mut readers: Vec<Vec<usize>> = (0..wires).map(|_| Vec::new(heap)).collect(heap)?;
     for (number, gate) in gates.iter().enumerate() {
         add_reader(readers.as_mut_slice(), gate, number)?;
@@ -91,12 +70,9 @@ pub(crate) fn readers_of(
     Ok(readers)
 }
 
-// A gate that reads a wire on several pins is its reader once.
 fn add_reader(readers: &mut [Vec<usize>], gate: &Gate, number: usize) -> Result<(), Fault> {
-    for wire in gate.inputs.iter() {
-        if let Some(list) = readers.get_mut(*wire)
-            && list.last().copied() != Some(number)
-        {
+    for wire in gate.wires.iter().take(gate.pins) {
+        if let Some(list) = readers.get_mut(*wire) {
             list.push(number)?;
         }
     }

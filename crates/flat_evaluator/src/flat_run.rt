@@ -3,16 +3,16 @@ use crate::calls::{Answer, Call, Operation, Outcome, Refusal, Room};
 use crate::fault::Fault;
 use crate::flat::Flat;
 use crate::settle::settle;
-use crate::values::Value;
+use crate::values::{Value, value_at};
 use std::alloc::Global;
 
 const MOST_CYCLES: usize = 65_535;
 
 // As many working values and level records as a step has to be handed.
 // Stays: the library has the same two; the flat evaluator shares no code with it.
-const WORKING_VALUES: usize = 1024;
+pub const WORKING_VALUES: usize = 1024;
 
-const LEVEL_RECORDS: usize = 8;
+pub const LEVEL_RECORDS: usize = 8;
 
 // The cells and the tape are what the caller's memory is to hold, also behind the board's cells and the cycles so far.
 #[derive(Drop)]
@@ -97,11 +97,11 @@ impl<V: Value> FlatRun<V> {
         let first = flat.tape_len(self.cycle);
         if let Some(free) = self.tape.as_mut_slice().get_mut(first..) {
             for (value, wire) in free.iter_mut().zip(flat.outputs.iter()) {
-                *value = wires.value(*wire);
+                put(value, wires.get(*wire));
             }
         }
         for (value, cell) in self.cells.iter_mut().zip(flat.cells.iter()) {
-            *value = wires.value(cell.input);
+            put(value, wires.get(cell.input));
         }
         self.cycle = self.cycle.saturating_add(1);
         Ok(Answer::Counted(flat.count()))
@@ -114,14 +114,14 @@ impl<V: Value> FlatRun<V> {
     }
 
     fn put_cells(&mut self, handed: &[V]) {
-        if let Some(cells) = self.cells.as_mut_slice().get_mut(..handed.len()) {
-            cells.copy_from_slice(handed);
+        for (old, new) in self.cells.iter_mut().zip(handed.iter()) {
+            *old = *new;
         }
     }
 
     fn lower_cells(&mut self, count: usize) {
-        if let Some(cells) = self.cells.as_mut_slice().get_mut(..count) {
-            cells.fill_with(|| V::of_bit(false));
+        for cell in self.cells.iter_mut().take(count) {
+            *cell = V::of_bit(false);
         }
     }
 }
@@ -142,6 +142,9 @@ fn require(holds: bool, refusal: Refusal) -> Result<(), Refusal> {
     if holds { Ok(()) } else { Err(refusal) }
 }
 
-fn value_at<V: Value>(values: &[V], place: usize) -> V {
-    values.get(place).copied().unwrap_or(V::of_bit(false))
+// A wire that the board has not leaves the value as it is.
+fn put<V: Value>(value: &mut V, wire: Option<&V>) {
+    if let Some(new) = wire {
+        *value = *new;
+    }
 }

@@ -1,147 +1,223 @@
-// A board made flat. Each way down from the top to a gate or a cell is a place; the top and each place of a module have wires
-// of their own, and a module's inputs and outputs are joined with the wires outside.
-ghost use Rattle.std.specs.Prelude.{◌≡◌};
-
+// A board made flat. A place is a way down from the top to an occurrence; the top and each place of a module have wires of
+// their own, and a module's inputs and outputs are joined with the wires outside.
 use crate::fault::Fault;
-use crate::file::{Module, Part, Pins};
+use crate::file::{Module, Part, Use};
 use crate::flat::{Cell, Flat, Gate, readers_of};
 use crate::function::Function;
-use crate::joints::{Joints, Names};
+use crate::joints::{Joints, Names, Wires};
 use std::alloc::Global;
 
 // More places than any board has.
 const MANY: usize = 1_000_000;
 
-pub fn flatten(heap: Global, modules: &[Module]) -> Result<Flat, Fault> {
-    let mut layout = Layout {
-        heap,
-        joints: Joints::new(heap),
-        gates: Vec::new(heap),
-        places: 0,
-        depth: 0,
-    };
-    let top = layout.lay(modules, Place::TOP)?;
-    layout.finish(top)
-}
-
 // The top, or the place of a module.
 #[derive(Clone, Copy)]
-struct Place {
+struct Inside {
     module: usize,
-    // How many modules below the top, down to this one, hold cells.
+    first_wire: usize,
+    first_place: usize,
     holders: usize,
     depth: usize,
 }
 
-impl Place {
-    const TOP: Place = Place {
-        module: 0,
-        holders: 0,
-        depth: 1,
-    };
+impl Inside {
+    fn wires<'a>(&self, list: &'a Vec<usize>) -> Wires<'a> {
+        Wires {
+            first: self.first_wire,
+            list: list.as_slice(),
+        }
+    }
 
-    // A module's place in this one.
-    fn inner(self, number: usize, entered: &Module) -> Place
-        ensures { result.module ≡ number }
-    {
-        let holds = !entered.states.is_empty();
-        Place {
-            module: number,
-            holders: self.holders.saturating_add(usize::from(holds)),
-            depth: self.depth.saturating_add(1),
+    fn gate(&self, names: &Names, function: Function, used: &Use) -> Gate {
+        let mut wires = [0; 3];
+        for (pin, wire) in wires.iter_mut().enumerate() {
+            *wire = names.on_pin(self.wires(&used.pins.inputs), pin);
+        }
+        Gate {
+            function,
+            pins: used.pins.inputs.len(),
+            wires,
+            output: names.on_pin(self.wires(&used.pins.outputs), 0),
+            holders: self.holders,
+        }
+    }
+
+    fn cell(&self, names: &Names, used: &Use) -> Cell {
+        Cell {
+            input: names.on_pin(self.wires(&used.pins.inputs), 0),
+            output: names.on_pin(self.wires(&used.pins.outputs), 0),
         }
     }
 }
 
-// A module that is laid out, as the module around it sees it. Its cells are in the order of its state list.
-#[derive(Drop)]
-struct Laid {
-    pins: Pins,
-    cells: Vec<Cell>,
+// An occurrence in an inside, by their numbers.
+#[derive(Clone, Copy)]
+struct Way {
+    inside: usize,
+    entry: usize,
 }
 
-// The places of a board that are laid out so far, each wire by a number of its own.
+// What is found on the way down, level by level. The places of one inside follow one another; at a place of a module stands the
+// number of its inside, and at others none.
+// Stays: lists by number: insides are found from the top down and wires numbered in that order, and any list of modules is laid out,
+// one that uses modules of lower numbers among them; as a recursion over modules, wires have other numbers, and only modules of
+// greater numbers can be used.
 #[derive(Drop)]
-struct Layout {
-    heap: Global,
+struct Plan<'m> {
+    modules: &'m [Module],
+    insides: Vec<Inside>,
+    places: Vec<Option<usize>>,
     joints: Joints,
-    gates: Vec<Gate>,
-    places: usize,
-    depth: usize,
 }
 
-impl Layout {
-    // A module uses only modules with greater numbers.
-    fn lay(&mut self, modules: &[Module], place: Place) -> Result<Laid, Fault> {
-        let module = modules.get(place.module).ok_or(Fault::File)?;
-        let first = self.joints.grow(module.wires)?;
-        self.depth = self.depth.max(place.depth);
-        let mut cells = Vec::new(self.heap);
-        for used in module.uses.iter() {
-            self.count_place()?;
-            let pins = used.pins.numbered_from(self.heap, first)?;
-            cells.push(match used.part {
-                Part::Gate(function) => self.lay_gate(function, pins, place.holders)?,
-                Part::Cell => self.lay_cell(&pins)?,
-                Part::Module(number) if number > place.module => {
-                    let entered = modules.get(number).ok_or(Fault::File)?;
-                    let laid = self.lay(modules, place.inner(number, entered))?;
-                    self.joints.join(&pins, &laid.pins);
-                    laid.cells
+pub fn flatten(heap: Global, modules: &[Module]) -> Result<Flat, Fault> {
+    let mut plan = Plan {
+        modules,
+        insides: Vec::new(heap),
+        places: Vec::new(heap),
+        joints: Joints::new(heap),
+    };
+    plan.enter(0, 0, 1)?;
+    for number in 0..MANY {
+        if number >= plan.insides.len() {
+            return plan.finish(heap);
+        }
+        plan.expand(number)?;
+    }
+    Err(Fault::Size)
+}
+
+impl<'m> Plan<'m> {
+    fn module(&self, number: usize) -> Result<&'m Module, Fault> {
+        self.modules.get(number).ok_or(Fault::File)
+    }
+
+    fn inside(&self, number: usize) -> Result<Inside, Fault> {
+        self.insides.get(number).copied().ok_or(Fault::File)
+    }
+
+    // A module gets wires of its own.
+    fn enter(&mut self, module: usize, holders: usize, depth: usize) -> Result<Inside, Fault> {
+        let wires = self.module(module)?.wires;
+        let inside = Inside {
+            module,
+            first_wire: self.joints.grow(wires)?,
+            first_place: 0,
+            holders,
+            depth,
+        };
+        self.insides.push(inside)?;
+        Ok(inside)
+    }
+
+    // The places right inside a module.
+    fn expand(&mut self, number: usize) -> Result<(), Fault> {
+        let first = self.places.len();
+        if let Some(inside) = self.insides.get_mut(number) {
+            inside.first_place = first;
+        }
+        let here = self.inside(number)?;
+        for used in self.module(here.module)?.uses.iter() {
+            let inner = match used.part {
+                Part::Module(module) => Some(self.enter_use(&here, used, module)?),
+                Part::Gate(_) | Part::Cell => None,
+            };
+            self.places.push(inner)?;
+        }
+        Ok(())
+    }
+
+    // The inside of an occurrence of a module, whose inputs and outputs are the wires on its pins.
+    fn enter_use(&mut self, here: &Inside, used: &Use, number: usize) -> Result<usize, Fault> {
+        let place = self.insides.len();
+        let module = self.module(number)?;
+        let holds = !module.states.is_empty();
+        let holders = here.holders.saturating_add(usize::from(holds));
+        let inner = self.enter(number, holders, here.depth.saturating_add(1))?;
+        self.joints.join(
+            here.wires(&used.pins.inputs),
+            inner.wires(&module.pins.inputs),
+        );
+        self.joints.join(
+            here.wires(&used.pins.outputs),
+            inner.wires(&module.pins.outputs),
+        );
+        Ok(place)
+    }
+
+    fn gates(&self, heap: Global, names: &Names) -> Result<Vec<Gate>, Fault> {
+        let mut gates = Vec::new(heap);
+        for inside in self.insides.iter() {
+            for used in self.module(inside.module)?.uses.iter() {
+                if let Part::Gate(function) = used.part {
+                    gates.push(inside.gate(names, function, used))?;
                 }
-                Part::Module(_) => return Err(Fault::File),
+            }
+        }
+        Ok(gates)
+    }
+
+    // The cells in the order of the state lists.
+    fn cells(&self, heap: Global, names: &Names) -> Result<Vec<Cell>, Fault> {
+        let mut cells = Vec::new(heap);
+        let mut left = Vec::new(heap);
+        self.push_states(0, &mut left)?;
+        for _ in 0..MANY {
+            let Some(way) = left.pop() else {
+                return Ok(cells);
+            };
+            let inside = self.inside(way.inside)?;
+            let Some(used) = self.module(inside.module)?.uses.get(way.entry) else {
+                return Err(Fault::File);
+            };
+            match used.part {
+                Part::Gate(_) => {}
+                Part::Cell => cells.push(inside.cell(names, used))?,
+                Part::Module(_) => self.push_states(self.place(&inside, way.entry), &mut left)?,
+            }
+        }
+        Err(Fault::Size)
+    }
+
+    // The number of the inside at a place of a module.
+    fn place(&self, inside: &Inside, entry: usize) -> usize {
+        let place = inside.first_place.saturating_add(entry);
+        self.places.get(place).copied().flatten().unwrap_or(0)
+    }
+
+    // The state list of a module, its first entry last, so that this one is taken first.
+    fn push_states(&self, number: usize, left: &mut Vec<Way>) -> Result<(), Fault> {
+        let module = self.module(self.inside(number)?.module)?;
+        for entry in module.states.iter().rev() {
+            left.push(Way {
+                inside: number,
+                entry: *entry,
             })?;
         }
-        Ok(Laid {
-            pins: module.pins.numbered_from(self.heap, first)?,
-            cells: in_order(self.heap, module.states.as_slice(), cells.as_slice())?,
-        })
+        Ok(())
     }
 
-    fn count_place(&mut self) -> Result<(), Fault> {
-        self.places = self.places.saturating_add(1);
-        if self.places <= MANY {
-            Ok(())
-        } else {
-            Err(Fault::Size)
-        }
-    }
-
-    // A gate has no cells.
-    fn lay_gate(
-        &mut self,
-        function: Function,
-        pins: Pins,
-        holders: usize,
-    ) -> Result<Vec<Cell>, Fault> {
-        let [output] = pins.outputs.as_slice() else {
-            return Err(Fault::File);
-        };
-        self.gates.push(Gate {
-            function,
-            output: *output,
-            inputs: pins.inputs,
-            holders,
-        })?;
-        Ok(Vec::new(self.heap))
-    }
-
-    fn lay_cell(&self, pins: &Pins) -> Result<Vec<Cell>, Fault> {
-        let ([input], [output]) = (pins.inputs.as_slice(), pins.outputs.as_slice()) else {
-            return Err(Fault::File);
-        };
-        let cell = Cell {
-            input: *input,
-            output: *output,
-        };
-        Ok(vec![in self.heap; cell]?)
+    fn depth(&self) -> usize {
+        self.insides
+            .iter()
+            .fold(0, |depth: usize, inside| depth.max(inside.depth))
     }
 
     // Each wire has to be driven exactly once.
-    fn finish(self, top: Laid) -> Result<Flat, Fault> {
-        let heap = self.heap;
+    fn finish(&self, heap: Global) -> Result<Flat, Fault> {
+        let top = self.module(0)?;
+        let inside = self.inside(0)?;
         let names = self.joints.names(heap)?;
-        let flat = self.named(top, &names)?;
+        let gates = self.gates(heap, &names)?;
+        let flat = Flat {
+            inputs: names.of_all(heap, inside.wires(&top.pins.inputs))?,
+            outputs: names.of_all(heap, inside.wires(&top.pins.outputs))?,
+            cells: self.cells(heap, &names)?,
+            readers: readers_of(heap, gates.as_slice(), names.len())?,
+            gates,
+            places: self.places.len(),
+            depth: self.depth(),
+        };
         let drivers = flat.drivers(heap, names.len())?;
         if names.once_each(drivers.as_slice()) {
             Ok(flat)
@@ -149,47 +225,4 @@ impl Layout {
             Err(Fault::Drivers)
         }
     }
-
-    // The flat board, with each wire by the name of all that it is joined to.
-    fn named(self, top: Laid, names: &Names) -> Result<Flat, Fault> {
-        let Layout {
-            heap,
-            joints: _,
-            mut gates,
-            places,
-            depth,
-        } = self;
-        let Laid { pins, mut cells } = top;
-        let Pins {
-            mut inputs,
-            mut outputs,
-        } = pins;
-        names.rename(inputs.as_mut_slice());
-        names.rename(outputs.as_mut_slice());
-        for gate in gates.iter_mut() {
-            gate.rename(names);
-        }
-        for cell in cells.iter_mut() {
-            cell.rename(names);
-        }
-        Ok(Flat {
-            inputs,
-            outputs,
-            readers: readers_of(heap, gates.as_slice(), names.len())?,
-            gates,
-            cells,
-            places,
-            depth,
-        })
-    }
-}
-
-// The cells of a module's occurrences in the order of its state list.
-fn in_order(heap: Global, states: &[usize], cells: &[Vec<Cell>]) -> Result<Vec<Cell>, Fault> {
-    let mut ordered = Vec::new(heap);
-    for entry in states.iter() {
-        let some = cells.get(*entry).ok_or(Fault::File)?;
-        ordered.extend_from_slice(some.as_slice())?;
-    }
-    Ok(ordered)
 }

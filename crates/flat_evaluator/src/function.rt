@@ -1,6 +1,5 @@
 // The functions of gates.
 // Stays: the library has the same gates; the flat evaluator shares no code with it.
-use crate::fault::Fault;
 
 #[derive(Clone, Copy, PartialEq, Eq, Debug)]
 pub enum Function {
@@ -15,26 +14,26 @@ pub enum Function {
     Nor,
     Xnor,
     Pick,
+    // A reference that stands for no gate: it gives 0.
+    Other,
 }
 
 // By the references of a board file.
-impl TryFrom<u16> for Function {
-    type Error = Fault;
-
-    fn try_from(reference: u16) -> Result<Function, Fault> {
+impl From<u16> for Function {
+    fn from(reference: u16) -> Function {
         match reference {
-            0 => Ok(Function::Low),
-            1 => Ok(Function::High),
-            2 => Ok(Function::Buf),
-            3 => Ok(Function::Not),
-            4 => Ok(Function::And),
-            5 => Ok(Function::Or),
-            6 => Ok(Function::Xor),
-            7 => Ok(Function::Nand),
-            8 => Ok(Function::Nor),
-            9 => Ok(Function::Xnor),
-            10 => Ok(Function::Pick),
-            _ => Err(Fault::File),
+            0 => Function::Low,
+            1 => Function::High,
+            2 => Function::Buf,
+            3 => Function::Not,
+            4 => Function::And,
+            5 => Function::Or,
+            6 => Function::Xor,
+            7 => Function::Nand,
+            8 => Function::Nor,
+            9 => Function::Xnor,
+            10 => Function::Pick,
+            _ => Function::Other,
         }
     }
 }
@@ -48,7 +47,9 @@ impl Function {
     // What it gives of the inputs 000, 001, 010, 011, 100, 101, 110 and 111, the first input first.
     fn row(self) -> [bool; 8] {
         match self {
-            Function::Low => [false, false, false, false, false, false, false, false],
+            Function::Low | Function::Other => [
+                false, false, false, false, false, false, false, false,
+            ],
             Function::High => [true, true, true, true, true, true, true, true],
             Function::Buf => [false, false, false, false, true, true, true, true],
             Function::Not => [true, true, true, true, false, false, false, false],

@@ -1,13 +1,19 @@
 // Wires, of which some are joined to one.
 use crate::fault::Fault;
-use crate::file::Pins;
 use std::alloc::Global;
 
-// For each wire a lower one that it is joined to, itself where it stands for all of them.
+// For each wire one that it is joined to, itself where it stands for all of them.
 // Stays: a wire has no name but its number, so what is known of each wire, here and in `Names`, is a Vec by that number.
 #[derive(Drop)]
 pub struct Joints {
     next: Vec<usize>,
+}
+
+// The wires of a module in a place are numbered from `first` on.
+#[derive(Clone, Copy)]
+pub struct Wires<'a> {
+    pub first: usize,
+    pub list: &'a [usize],
 }
 
 impl Joints {
@@ -24,18 +30,12 @@ impl Joints {
         Ok(first)
     }
 
-    // The pins of an occurrence with those of the module.
-    pub fn join(&mut self, outer: &Pins, inner: &Pins) {
-        self.join_each(outer.inputs.as_slice(), inner.inputs.as_slice());
-        self.join_each(outer.outputs.as_slice(), inner.outputs.as_slice());
-    }
-
-    fn join_each(&mut self, outer: &[usize], inner: &[usize]) {
-        for (a, b) in outer.iter().zip(inner.iter()) {
-            let one = self.name(*a);
-            let other = self.name(*b);
-            if let Some(next) = self.next.get_mut(one.max(other)) {
-                *next = one.min(other);
+    pub fn join(&mut self, outer: Wires<'_>, inner: Wires<'_>) {
+        for (a, b) in outer.list.iter().zip(inner.list.iter()) {
+            let from = self.name(outer.first.saturating_add(*a));
+            let to = self.name(inner.first.saturating_add(*b));
+            if let Some(next) = self.next.get_mut(from) {
+                *next = to;
             }
         }
     }
@@ -43,10 +43,11 @@ impl Joints {
     // The wire that stands for all that this one is joined to.
     fn name(&self, wire: usize) -> usize {
         let mut name = wire;
-        while let Some(next) = self.next.get(name)
-            && *next < name
-        {
-            name = *next;
+        for _ in 0..self.next.len() {
+            match self.next.get(name) {
+                Some(next) if *next != name => name = *next,
+                _ => break,
+            }
         }
         name
     }
@@ -71,14 +72,21 @@ impl Names {
         self.names.len()
     }
 
-    pub fn of(&self, wire: usize) -> usize {
+    fn of(&self, wire: usize) -> usize {
         self.names.get(wire).copied().unwrap_or(0)
     }
 
-    pub fn rename(&self, wires: &mut [usize]) {
-        for wire in wires.iter_mut() {
-            *wire = self.of(*wire);
-        }
+    // The name of the wire on a pin.
+    pub fn on_pin(&self, wires: Wires<'_>, pin: usize) -> usize {
+        wires
+            .list
+            .get(pin)
+            .map_or(0, |wire| self.of(wires.first.saturating_add(*wire)))
+    }
+
+    pub fn of_all(&self, heap: Global, wires: Wires<'_>) -> Result<Vec<usize>, Fault> {
+        let names = (0..wires.list.len()).map(|pin| self.on_pin(wires, pin));
+        Ok(names.collect(heap)?)
     }
 
     // Whether each wire, by its name, has the count 1.

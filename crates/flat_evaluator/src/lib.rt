@@ -8,7 +8,7 @@ pub mod file;
 pub mod flat;
 pub mod flat_run;
 pub mod flatten;
-mod function;
+pub mod function;
 mod joints;
 mod settle;
 pub mod values;

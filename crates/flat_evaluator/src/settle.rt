@@ -1,93 +1,103 @@
 // The values on all wires of a flat board, by a list of the gates whose inputs are known.
 use crate::fault::Fault;
 use crate::flat::{Flat, Gate};
-use crate::values::Value;
+use crate::values::{Value, value_at};
 use std::alloc::Global;
 
 #[derive(Drop)]
-pub struct Wires<'f, V> {
-    flat: &'f Flat,
-    // By the number of the wire, where it is known.
-    // Stays: the values are of one step and the board's readers of all, so a record of both for each wire would copy the readers.
-    values: Vec<Option<V>>,
-    // Gates that are not evaluated yet and whose inputs are known.
-    ready: Vec<&'f Gate>,
+struct Settling<V> {
+    values: Vec<V>,
+    // For each gate, on how many of its pins the value is not known yet.
+    lacking: Vec<usize>,
+    ready: Vec<usize>,
 }
 
-// Each input and each cell's output has the value that is given, and each gate's output what its function gives.
-pub fn settle<'f, V: Value>(
+// The values by wire: each input and each cell's output is what is given, and each gate's output is its function.
+pub fn settle<V: Value>(
     heap: Global,
-    flat: &'f Flat,
+    flat: &Flat,
     inputs: &[V],
     cells: &[V],
-) -> Result<Wires<'f, V>, Fault> {
-    let mut wires = Wires::new(heap, flat)?;
+) -> Result<Vec<V>, Fault> {
+    let mut settling = Settling::start(heap, flat)?;
     for (wire, value) in flat.inputs.iter().zip(inputs.iter()) {
-        wires.put(*wire, *value)?;
+        settling.put(flat, *wire, *value)?;
     }
     for (cell, value) in flat.cells.iter().zip(cells.iter()) {
-        wires.put(cell.output, *value)?;
+        settling.put(flat, cell.output, *value)?;
     }
-    // Stays: each gate is evaluated once; a loop until none is ready has as its measure the gates left, which this range counts.
     for _ in 0..flat.gates.len() {
-        wires.evaluate_one()?;
+        settling.evaluate_one(flat)?;
     }
-    Ok(wires)
+    let Settling {
+        values,
+        lacking: _,
+        ready: _,
+    } = settling;
+    Ok(values)
 }
 
-impl<'f, V: Value> Wires<'f, V> {
-    fn new(heap: Global, flat: &'f Flat) -> Result<Wires<'f, V>, Fault> {
-        Ok(Wires {
-            flat,
-            values: vec![in heap; None; flat.readers.len()]?,
-            ready: flat
-                .gates
-                .iter()
-                .filter(|gate| gate.inputs.is_empty())
-                .collect(heap)?,
+impl<V: Value> Settling<V> {
+    fn start(heap: Global, flat: &Flat) -> Result<Settling<V>, Fault> {
+        let mut lacking = Vec::new(heap);
+        let mut ready = Vec::new(heap);
+        for (number, gate) in flat.gates.iter().enumerate() {
+            lacking.push(gate.pins)?;
+            if gate.pins == 0 {
+                ready.push(number)?;
+            }
+        }
+        Ok(Settling {
+            values: vec![in heap; V::of_bit(false); flat.readers.len()]?,
+            lacking,
+            ready,
         })
     }
 
-    pub fn value(&self, wire: usize) -> V {
-        self.values
-            .get(wire)
-            .copied()
-            .flatten()
-            .unwrap_or(V::of_bit(false))
-    }
-
     // A wire's value becomes known.
-    fn put(&mut self, wire: usize, value: V) -> Result<(), Fault> {
+    fn put(&mut self, flat: &Flat, wire: usize, value: V) -> Result<(), Fault> {
         if let Some(entry) = self.values.get_mut(wire) {
-            *entry = Some(value);
+            *entry = value;
         }
-        for reader in self.flat.readers(wire).iter() {
-            let gate = self.flat.gates.get(*reader).ok_or(Fault::Ring)?;
-            if self.knows(gate.inputs.as_slice()) {
-                self.ready.push(gate)?;
-            }
+        let Some(readers) = flat.readers.get(wire) else {
+            return Ok(());
+        };
+        for reader in readers.iter() {
+            self.tell(*reader)?;
         }
         Ok(())
     }
 
-    fn knows(&self, wires: &[usize]) -> bool {
-        wires
-            .iter()
-            .all(|wire| self.values.get(*wire).copied().flatten().is_some())
+    // One more pin of a gate is known.
+    fn tell(&mut self, gate: usize) -> Result<(), Fault> {
+        let Some(lacking) = self.lacking.get_mut(gate) else {
+            return Ok(());
+        };
+        *lacking = lacking.saturating_sub(1);
+        if *lacking == 0 {
+            self.ready.push(gate)?;
+        }
+        Ok(())
     }
 
     // Evaluates one of the gates whose inputs are known.
-    fn evaluate_one(&mut self) -> Result<(), Fault> {
-        let gate = self.ready.pop().ok_or(Fault::Ring)?;
+    fn evaluate_one(&mut self, flat: &Flat) -> Result<(), Fault> {
+        let Some(number) = self.ready.pop() else {
+            return Err(Fault::Ring);
+        };
+        let Some(gate) = flat.gates.get(number) else {
+            return Err(Fault::Ring);
+        };
         let a = self.operand(gate, 0);
         let b = self.operand(gate, 1);
         let c = self.operand(gate, 2);
-        self.put(gate.output, V::gate(gate.function, a, b, c))
+        self.put(flat, gate.output, V::gate(gate.function, a, b, c))
     }
 
     fn operand(&self, gate: &Gate, pin: usize) -> V {
-        gate.inputs
-            .get(pin)
-            .map_or(V::of_bit(false), |wire| self.value(*wire))
+        match gate.wires.get(pin) {
+            Some(wire) if pin < gate.pins => value_at(self.values.as_slice(), *wire),
+            _ => V::of_bit(false),
+        }
     }
 }

@@ -24,6 +24,10 @@ pub trait Value: Clone + Copy + PartialEq {
     }
 }
 
+pub fn value_at<V: Value>(values: &[V], place: usize) -> V {
+    values.get(place).copied().unwrap_or(V::of_bit(false))
+}
+
 impl Value for bool {
     fn of_bit(bit: bool) -> bool {
         bit
