@@ -3,7 +3,7 @@ use crate::library::Lengths;
 use board::Figures;
 use board_maker::dice::Dice;
 use flat_evaluator::calls::{Call, Operation, Room};
-use run::{LEVEL_RECORDS, WORKING_VALUES};
+use flat_evaluator::flat_run::{LEVEL_RECORDS, WORKING_VALUES};
 
 // What calls are chosen by: the board's figures, the lengths of the caller's memory, and where the run stands.
 #[derive(Clone, Copy)]

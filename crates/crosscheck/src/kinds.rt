@@ -19,10 +19,30 @@ pub trait Kind: Signal {
     fn any(dice: &mut Dice) -> Self;
 }
 
+// The unknown of a kind, written out: what the library's `unknown` gives is compared with it.
+pub trait Blank: WithUnknown {
+    fn blank() -> Self;
+}
+
+impl Blank for Level {
+    fn blank() -> Level {
+        Level::Unknown
+    }
+}
+
+impl<K: Blank> Blank for Marks<K> {
+    fn blank() -> Marks<K> {
+        Marks {
+            below: K::blank(),
+            marks: 0,
+        }
+    }
+}
+
 // Cold starts on a kind.
 pub trait ColdStart<K> {
     // The unknown, of a kind that has one.
-    fn unknown() -> Option<K>;
+    fn blank() -> Option<K>;
 
     // A cold start; on a kind that has no unknown, a start from low cells.
     fn start<'b, 'f>(board: &'b Board<'f>, cells: &mut [K]) -> Result<Run<'b, 'f>, CallRefusal>;
@@ -31,9 +51,9 @@ pub trait ColdStart<K> {
 // Of kinds that have an unknown.
 pub struct FromUnknown;
 
-impl<K: WithUnknown> ColdStart<K> for FromUnknown {
-    fn unknown() -> Option<K> {
-        Some(K::unknown())
+impl<K: Blank> ColdStart<K> for FromUnknown {
+    fn blank() -> Option<K> {
+        Some(K::blank())
     }
 
     fn start<'b, 'f>(board: &'b Board<'f>, cells: &mut [K]) -> Result<Run<'b, 'f>, CallRefusal> {
@@ -45,7 +65,7 @@ impl<K: WithUnknown> ColdStart<K> for FromUnknown {
 pub struct FromLow;
 
 impl<K: Signal> ColdStart<K> for FromLow {
-    fn unknown() -> Option<K> {
+    fn blank() -> Option<K> {
         None
     }
 

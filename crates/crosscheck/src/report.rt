@@ -1,7 +1,6 @@
 // What was compared, and what differed.
-use crate::view::{Expected, View};
+use crate::view::Seen;
 use flat_evaluator::calls::{Operation, Outcome, Refusal};
-use flat_evaluator::values::Value;
 use std::{fmt, io};
 
 // What can differ in one call.
@@ -173,22 +172,16 @@ impl Tally {
     }
 
     // Counts values, and what they have that they should not.
-    pub fn compare<V: Value>(
-        &mut self,
-        view: &View,
-        found: &[V],
-        expected: &Expected<'_, V>,
-        difference: Difference,
-    ) {
-        add(&mut self.values, found.len());
-        add(&mut self.bits, found.len().min(expected.bits.len()));
-        if found != expected.values {
+    pub fn note(&mut self, seen: &Seen, difference: Difference) {
+        add(&mut self.values, seen.values);
+        add(&mut self.bits, seen.bits);
+        if seen.differ {
             self.differ(difference);
         }
-        if view.deny(found, expected.bits) {
+        if seen.deny {
             self.differ(Difference::Denied);
         }
-        if view.unsettled(found, expected.bits) {
+        if seen.unsettled {
             self.differ(Difference::Unsettled);
         }
     }

@@ -4,15 +4,14 @@ use crate::choice::Standing;
 use crate::kinds::{ColdStart, Kind};
 use crate::library::{Lengths, LibraryRun, any_values, first};
 use crate::report::{Difference, Tally};
-use crate::view::{Expected, View};
+use crate::view::{Expected, Seen, View};
 use board::{Board, Figures};
 use board_maker::dice::Dice;
 use flat_evaluator::calls::{Answer, Call, Operation, Outcome, Room};
 use flat_evaluator::fault::Fault;
 use flat_evaluator::flat::Flat;
-use flat_evaluator::flat_run::FlatRun;
-use flat_evaluator::values::Value;
-use run::{CallRefusal, LEVEL_RECORDS, Run, WORKING_VALUES, power};
+use flat_evaluator::flat_run::{FlatRun, LEVEL_RECORDS, WORKING_VALUES};
+use run::{CallRefusal, Run, power};
 use std::alloc::{AllocError, Global};
 
 const CALLS: usize = 60;
@@ -120,7 +119,7 @@ impl<'b, 'f, 's, K: Kind> Session<'b, 'f, 's, K> {
             figures: self.task.figures,
             most: self.most,
             cycle: self.wanted.cycle,
-            colds: !self.view.settled && K::Start::unknown().is_some(),
+            colds: !self.view.settled && K::Start::blank().is_some(),
         }
     }
 
@@ -131,8 +130,8 @@ impl<'b, 'f, 's, K: Kind> Session<'b, 'f, 's, K> {
             Operation::Step(room) => self.view.any_values(heap, self.dice, room.inputs),
             Operation::Set { .. } => self.view.any_values(heap, self.dice, 1),
             Operation::Cold => {
-                let unknown = K::Start::unknown().unwrap_or(K::low());
-                Ok(vec![in heap; unknown; call.cells]?)
+                let blank = K::Start::blank().unwrap_or(K::low());
+                Ok(vec![in heap; blank; call.cells]?)
             }
             _ => Ok(Vec::new(heap)),
         }
@@ -149,7 +148,7 @@ impl<'b, 'f, 's, K: Kind> Session<'b, 'f, 's, K> {
         let wanted = self.wanted.call(heap, flat, call, own.as_slice())?;
         let on_bits = self.bits.call(heap, flat, call, bits.as_slice())?;
         self.tally.count(&call.operation, &wanted);
-        self.compare_outcomes(&found, &wanted, &on_bits)?;
+        self.compare_outcomes(&found, &wanted, &on_bits);
         Ok(wanted)
     }
 
@@ -158,10 +157,12 @@ impl<'b, 'f, 's, K: Kind> Session<'b, 'f, 's, K> {
         found: &Result<Answer<K>, CallRefusal>,
         wanted: &Outcome<K::Own>,
         bits: &Outcome<bool>,
-    ) -> Result<(), AllocError> {
+    ) {
         let agree = match (found, wanted, bits) {
             (Ok(Answer::Value(value)), Ok(Answer::Value(own)), Ok(Answer::Value(bit))) => {
-                return self.compare_value(*value, *own, *bit);
+                let mut seen = Seen::default();
+                self.view.see_one(&mut seen, &value.own(), own, Some(bit));
+                return self.tally.note(&seen, Difference::Answer);
             }
             (Ok(Answer::Counted(a)), Ok(Answer::Counted(b)), Ok(Answer::Counted(c))) => {
                 a == b && a == c
@@ -173,19 +174,6 @@ impl<'b, 'f, 's, K: Kind> Session<'b, 'f, 's, K> {
         if !agree {
             self.tally.differ(Difference::Answer);
         }
-        Ok(())
-    }
-
-    fn compare_value(&mut self, value: K, wanted: K::Own, bit: bool) -> Result<(), AllocError> {
-        let heap = self.task.heap;
-        let found = vec![in heap; value.own(); 1]?;
-        let wanted = vec![in heap; wanted; 1]?;
-        let expected = Expected {
-            values: wanted.as_slice(),
-            bits: &[bit],
-        };
-        self.tally.compare(&self.view, found.as_slice(), &expected, Difference::Answer);
-        Ok(())
     }
 
     // The call on all three, with all memory compared after it.
@@ -194,14 +182,14 @@ impl<'b, 'f, 's, K: Kind> Session<'b, 'f, 's, K> {
         let values = own_values(heap, self.library.values.as_slice())?;
         let levels = Vec::from_slice(heap, self.library.levels.as_slice())?;
         let refused = self.call(call)?.is_err();
-        self.compare_memory()?;
+        self.compare_memory();
         if refused {
-            let found = own_values(heap, self.library.values.as_slice())?;
             let expected = Expected {
                 values: values.as_slice(),
                 bits: &[],
             };
-            self.tally.compare(&self.view, found.as_slice(), &expected, Difference::Scratch);
+            let seen = self.view.see(self.library.values.as_slice(), &expected);
+            self.tally.note(&seen, Difference::Scratch);
             if self.library.levels != levels {
                 self.tally.differ(Difference::Scratch);
             }
@@ -210,24 +198,20 @@ impl<'b, 'f, 's, K: Kind> Session<'b, 'f, 's, K> {
     }
 
     // The cells and the tape; those of the board and of the cycles so far admit the bits of the flat run.
-    fn compare_memory(&mut self) -> Result<(), AllocError> {
-        let heap = self.task.heap;
-        let cells = own_values(heap, self.library.cells.as_slice())?;
+    fn compare_memory(&mut self) {
         let expected = Expected {
             values: self.wanted.cells.as_slice(),
             bits: first(self.bits.cells.as_slice(), self.task.figures.cells),
         };
-        self.tally
-            .compare(&self.view, cells.as_slice(), &expected, Difference::Cells);
-        let tape = own_values(heap, self.library.tape.as_slice())?;
+        let cells = self.view.see(self.library.cells.as_slice(), &expected);
+        self.tally.note(&cells, Difference::Cells);
         let filled = self.wanted.cycle.saturating_mul(self.task.figures.outputs);
         let expected = Expected {
             values: self.wanted.tape.as_slice(),
             bits: first(self.bits.tape.as_slice(), filled),
         };
-        self.tally
-            .compare(&self.view, tape.as_slice(), &expected, Difference::Tape);
-        Ok(())
+        let tape = self.view.see(self.library.tape.as_slice(), &expected);
+        self.tally.note(&tape, Difference::Tape);
     }
 }
 
