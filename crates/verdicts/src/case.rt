@@ -10,21 +10,37 @@ pub struct Case {
     pub file: Vec<u8>,
 }
 
+// The files that cases are made of.
+#[derive(Drop)]
+pub struct Bases<'a> {
+    heap: Global,
+    files: Vec<&'a [u8]>,
+}
+
+impl<'a> Bases<'a> {
+    pub(crate) fn read(heap: Global, bytes: &'a [u8]) -> Result<Bases<'a>, Fault> {
+        let mut reader = Reader::new(bytes);
+        let count = reader.number()?;
+        Ok(Bases {
+            heap,
+            files: (0..count).map(|_| reader.block()).try_collect(heap)?,
+        })
+    }
+}
+
 // The cases that are still to come, each made of a base.
 #[derive(Drop)]
 pub struct Cases<'a> {
-    heap: Global,
-    bases: Vec<&'a [u8]>,
+    bases: Bases<'a>,
     count: usize,
     reader: Reader<'a>,
 }
 
 impl<'a> Cases<'a> {
-    pub(crate) fn new(heap: Global, bases: &'a [u8], cases: &'a [u8]) -> Result<Cases<'a>, Fault> {
+    pub(crate) fn new(bases: Bases<'a>, cases: &'a [u8]) -> Result<Cases<'a>, Fault> {
         let mut reader = Reader::new(cases);
         Ok(Cases {
-            heap,
-            bases: read_bases(heap, bases)?,
+            bases,
             count: reader.number()?,
             reader,
         })
@@ -46,7 +62,7 @@ impl<'a> Cases<'a> {
     pub(crate) fn read(&mut self) -> Result<Case, Fault> {
         let number = self.reader.number()?;
         let expected = self.read_verdict()?;
-        let base = *self.bases.get(number).ok_or(Fault::NoSuchBase)?;
+        let base = *self.bases.files.get(number).ok_or(Fault::NoSuchBase)?;
         let file = self.rebuild(base)?;
         Ok(Case { expected, file })
     }
@@ -69,7 +85,7 @@ impl<'a> Cases<'a> {
     // The base with the edits that come next.
     fn rebuild(&mut self, base: &[u8]) -> Result<Vec<u8>, Fault> {
         let mut left = Reader::new(base);
-        let mut file = Vec::new(self.heap);
+        let mut file = Vec::new(self.bases.heap);
         for _ in 0..self.reader.byte()? {
             self.edit(&mut left, &mut file)?;
         }
@@ -90,10 +106,4 @@ impl<'a> Cases<'a> {
         }
         Ok(())
     }
-}
-
-fn read_bases<'a>(heap: Global, bytes: &'a [u8]) -> Result<Vec<&'a [u8]>, Fault> {
-    let mut reader = Reader::new(bytes);
-    let count = reader.number()?;
-    (0..count).map(|_| reader.block()).try_collect(heap)
 }

@@ -8,16 +8,17 @@ mod reader;
 mod tally;
 mod verdict;
 
-use crate::case::Cases;
+use crate::case::{Bases, Cases};
 use crate::tally::Tally;
 use crate::verdict::verdict_of;
 use std::fs;
 
 fn run(rt: &HostRuntime) -> anyhow::Result<()> {
     let base_bytes = fs::read(rt, "bases.bin")?;
+    let bases = Bases::read(rt.alloc(), base_bytes.as_slice())?;
     let case_bytes = fs::read(rt, "cases.bin")?;
-    let mut cases = Cases::new(rt.alloc(), base_bytes.as_slice(), case_bytes.as_slice())?;
-    let mut tally = Tally::new(rt.alloc())?;
+    let mut cases = Cases::new(bases, case_bytes.as_slice())?;
+    let mut tally = Tally::new();
     for number in 0..cases.count() {
         let case = cases.read()?;
         let found = verdict_of(case.file.as_slice());

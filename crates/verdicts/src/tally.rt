@@ -1,7 +1,6 @@
 // How many files came out in each way.
 use crate::verdict::Verdict;
-use std::alloc::{AllocError, Global};
-use std::io;
+use std::{fmt, io};
 
 // The outcomes by their numbers: 0 for an accepted file, and the others for the refusals.
 // Stays: the stored cases name a refusal by its number.
@@ -13,34 +12,25 @@ const NAMES: [&str; 13] = [
 // How many mismatches are shown.
 const SHOWN: usize = 10;
 
-#[derive(Clone, Copy)]
-struct Outcome {
-    name: &'static str,
-    agreed: usize,
-}
-
 #[derive(Drop)]
 pub struct Tally {
-    outcomes: Vec<Outcome>,
+    // Stays: the counts beside the names, which are the program's: a tally allocates nothing.
+    agreed: [usize; 13],
     pub mismatches: usize,
 }
 
 impl Tally {
-    pub fn new(heap: Global) -> Result<Tally, AllocError> {
-        let outcomes = NAMES
-            .iter()
-            .map(|name| Outcome { name, agreed: 0 })
-            .collect(heap)?;
-        Ok(Tally {
-            outcomes,
+    pub fn new() -> Tally {
+        Tally {
+            agreed: [0; 13],
             mismatches: 0,
-        })
+        }
     }
 
     pub fn agree(&mut self, verdict: Verdict) {
         let number = verdict.map_or_else(|refused| usize::from(refused.number), |_| 0);
-        if let Some(outcome) = self.outcomes.as_mut_slice().get_mut(number) {
-            outcome.agreed = outcome.agreed.saturating_add(1);
+        if let Some(count) = self.agreed.get_mut(number) {
+            *count = count.saturating_add(1);
         }
     }
 
@@ -53,26 +43,30 @@ impl Tally {
     ) -> io::Result<()> {
         self.mismatches = self.mismatches.saturating_add(1);
         if self.mismatches <= SHOWN {
-            let expected = text(rt.alloc(), expected)?;
-            let found = text(rt.alloc(), found)?;
+            let expected = Shown(expected);
+            let found = Shown(found);
             println!(rt; "case {case}: expected {expected}, found {found}")?;
         }
         Ok(())
     }
 
     pub fn show(&self, rt: &HostRuntime) -> io::Result<()> {
-        for (number, outcome) in self.outcomes.iter().enumerate() {
-            let name = outcome.name;
-            let count = outcome.agreed;
+        for (number, (name, count)) in NAMES.iter().zip(self.agreed.iter()).enumerate() {
             println!(rt; "{number:2} {name:8} {count:6}")?;
         }
         Ok(())
     }
 }
 
-fn text(heap: Global, verdict: Verdict) -> Result<String, AllocError> {
-    match verdict {
-        Ok(figures) => format!(in heap; "accepted, {figures}"),
-        Err(refused) => format!(in heap; "{refused}"),
+// A verdict as it is printed.
+#[derive(Clone, Copy)]
+struct Shown(Verdict);
+
+impl fmt::Display for Shown {
+    fn fmt<W: fmt::Write>(&self, f: &mut fmt::Formatter<W>) -> fmt::Result {
+        match self.0 {
+            Ok(figures) => write!(f, "accepted, {figures}"),
+            Err(refused) => write!(f, "{refused}"),
+        }
     }
 }
