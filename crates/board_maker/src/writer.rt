@@ -70,11 +70,12 @@ fn push_record(bytes: &mut Vec<u8>, kind: RecordKind, parts: &[&[u8]]) -> Result
     bytes.extend_from_slice(body.as_slice())
 }
 
-// The numbers of a board within its limits fit.
+// The lowest byte; the numbers of a board within its limits fit.
 fn byte(number: usize) -> u8 {
-    u8::try_from(number).unwrap_or(u8::MAX)
+    (number & 0xff) as u8
 }
 
+// The two lowest bytes, the low one first.
 fn two_bytes(number: usize) -> [u8; 2] {
-    u16::try_from(number).unwrap_or(u16::MAX).to_le_bytes()
+    ((number & 0xffff) as u16).to_le_bytes()
 }
