@@ -182,6 +182,12 @@ mod tests {
             }
             x = next(r);
         }
+        for place in 0..u64::BITS {
+            let mark: u64 = 1 << place;
+            assert_eq!(rt; marked(0u64, mark).told(), None);
+            assert_eq!(rt; marked(u64::MAX, mark).told(), None);
+        }
+        assert_eq!(rt; marked(0u64, 0).told(), Some(false));
         assert_eq!(rt; marked(u64::MAX, 0).told(), Some(true));
         assert_eq!(rt; marked(u64::MAX, 8).told(), None);
         assert_eq!(rt; marked(1u64, 0).told(), None);
