@@ -39,7 +39,7 @@ impl From<u16> for Part {
         match reference {
             11 => Part::Cell,
             256.. => Part::Module(usize::from(reference - 256)),
-            _ => Part::Gate(Function::from(reference)),
+            _ => Part::Gate(Function::from(usize::from(reference))),
         }
     }
 }

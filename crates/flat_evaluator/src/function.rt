@@ -19,8 +19,8 @@ pub enum Function {
 }
 
 // By the references of a board file.
-impl From<u16> for Function {
-    fn from(reference: u16) -> Function {
+impl From<usize> for Function {
+    fn from(reference: usize) -> Function {
         match reference {
             0 => Function::Low,
             1 => Function::High,
