@@ -104,6 +104,7 @@ pub struct Expected<'a, V> {
 
 // What was seen of values: how many there were, how many of them had a bit, whether they differ from what they are to be, whether
 // one denies its bit, and whether one that has a bit is not settled though all handed in are.
+// Stays: flags beside counts, so that values are looked at once, one by one, where they lie.
 #[derive(Clone, Copy, Default)]
 pub struct Seen {
     pub values: usize,

@@ -41,6 +41,7 @@ impl Joints {
     }
 
     // The wire that stands for all that this one is joined to.
+    // Stays: a wire may be joined to one of a greater number, so that no measure falls from one to the next.
     fn name(&self, wire: usize) -> usize {
         let mut name = wire;
         for _ in 0..self.next.len() {

@@ -4,6 +4,8 @@ use crate::flat::{Flat, Gate};
 use crate::values::{Value, value_at};
 use std::alloc::Global;
 
+// Stays: lists by the number of a wire or a gate: counted down, a gate is ready at the last of its pins, one pin at a time, and a
+// gate with more pins than a gate has wires never is.
 #[derive(Drop)]
 struct Settling<V> {
     values: Vec<V>,
