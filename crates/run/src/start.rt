@@ -10,6 +10,7 @@ use board::Board;
 use signal::{Signal, WithUnknown};
 
 // Starts a run whose cells all have the value.
+#[tactic(auto, using(walk::proofs::Fills::all_filled))]
 fn start<'b, 'f, K: Signal>(
     board: &'b Board<'f>,
     cells: &mut [K],
