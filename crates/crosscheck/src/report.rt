@@ -1,5 +1,6 @@
 // What was compared, and what differed.
-use crate::view::Seen;
+use crate::kinds::Kind;
+use crate::view::{Expected, View};
 use flat_evaluator::calls::{Operation, Outcome, Refusal};
 use std::{fmt, io};
 
@@ -172,16 +173,22 @@ impl Tally {
     }
 
     // Counts values, and what they have that they should not.
-    pub fn note(&mut self, seen: &Seen, difference: Difference) {
-        add(&mut self.values, seen.values);
-        add(&mut self.bits, seen.bits);
-        if seen.differ {
+    pub fn compare<K: Kind>(
+        &mut self,
+        view: &View,
+        found: &[K],
+        expected: &Expected<'_, K::Own>,
+        difference: Difference,
+    ) {
+        add(&mut self.values, found.len());
+        add(&mut self.bits, found.len().min(expected.bits.len()));
+        if view.differ(found, expected.values) {
             self.differ(difference);
         }
-        if seen.deny {
+        if view.deny(found, expected.bits) {
             self.differ(Difference::Denied);
         }
-        if seen.unsettled {
+        if view.unsettled(found, expected.bits) {
             self.differ(Difference::Unsettled);
         }
     }

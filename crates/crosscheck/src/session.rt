@@ -4,7 +4,7 @@ use crate::choice::Standing;
 use crate::kinds::{ColdStart, Kind};
 use crate::library::{Lengths, LibraryRun, any_values, first};
 use crate::report::{Difference, Tally};
-use crate::view::{Expected, Seen, View};
+use crate::view::{Expected, View};
 use board::{Board, Figures};
 use board_maker::dice::Dice;
 use flat_evaluator::calls::{Answer, Call, Operation, Outcome, Room};
@@ -148,7 +148,7 @@ impl<'b, 'f, 's, K: Kind> Session<'b, 'f, 's, K> {
         let wanted = self.wanted.call(heap, flat, call, own.as_slice())?;
         let on_bits = self.bits.call(heap, flat, call, bits.as_slice())?;
         self.tally.count(&call.operation, &wanted);
-        self.compare_outcomes(&found, &wanted, &on_bits);
+        self.compare_outcomes(&found, &wanted, &on_bits)?;
         Ok(wanted)
     }
 
@@ -157,12 +157,10 @@ impl<'b, 'f, 's, K: Kind> Session<'b, 'f, 's, K> {
         found: &Result<Answer<K>, CallRefusal>,
         wanted: &Outcome<K::Own>,
         bits: &Outcome<bool>,
-    ) {
+    ) -> Result<(), AllocError> {
         let agree = match (found, wanted, bits) {
             (Ok(Answer::Value(value)), Ok(Answer::Value(own)), Ok(Answer::Value(bit))) => {
-                let mut seen = Seen::default();
-                self.view.see_one(&mut seen, &value.own(), own, Some(bit));
-                return self.tally.note(&seen, Difference::Answer);
+                return self.compare_value(*value, *own, *bit);
             }
             (Ok(Answer::Counted(a)), Ok(Answer::Counted(b)), Ok(Answer::Counted(c))) => {
                 a == b && a == c
@@ -174,6 +172,19 @@ impl<'b, 'f, 's, K: Kind> Session<'b, 'f, 's, K> {
         if !agree {
             self.tally.differ(Difference::Answer);
         }
+        Ok(())
+    }
+
+    fn compare_value(&mut self, value: K, wanted: K::Own, bit: bool) -> Result<(), AllocError> {
+        let heap = self.task.heap;
+        let found = vec![in heap; value; 1]?;
+        let wanted = vec![in heap; wanted; 1]?;
+        let expected = Expected {
+            values: wanted.as_slice(),
+            bits: &[bit],
+        };
+        self.tally.compare(&self.view, found.as_slice(), &expected, Difference::Answer);
+        Ok(())
     }
 
     // The call on all three, with all memory compared after it.
@@ -188,8 +199,9 @@ impl<'b, 'f, 's, K: Kind> Session<'b, 'f, 's, K> {
                 values: values.as_slice(),
                 bits: &[],
             };
-            let seen = self.view.see(self.library.values.as_slice(), &expected);
-            self.tally.note(&seen, Difference::Scratch);
+            let found = self.library.values.as_slice();
+            self.tally
+                .compare(&self.view, found, &expected, Difference::Scratch);
             if self.library.levels != levels {
                 self.tally.differ(Difference::Scratch);
             }
@@ -203,15 +215,17 @@ impl<'b, 'f, 's, K: Kind> Session<'b, 'f, 's, K> {
             values: self.wanted.cells.as_slice(),
             bits: first(self.bits.cells.as_slice(), self.task.figures.cells),
         };
-        let cells = self.view.see(self.library.cells.as_slice(), &expected);
-        self.tally.note(&cells, Difference::Cells);
+        let cells = self.library.cells.as_slice();
+        self.tally
+            .compare(&self.view, cells, &expected, Difference::Cells);
         let filled = self.wanted.cycle.saturating_mul(self.task.figures.outputs);
         let expected = Expected {
             values: self.wanted.tape.as_slice(),
             bits: first(self.bits.tape.as_slice(), filled),
         };
-        let tape = self.view.see(self.library.tape.as_slice(), &expected);
-        self.tally.note(&tape, Difference::Tape);
+        let tape = self.library.tape.as_slice();
+        self.tally
+            .compare(&self.view, tape, &expected, Difference::Tape);
     }
 }
 

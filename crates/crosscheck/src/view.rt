@@ -71,27 +71,30 @@ impl View {
             .collect(heap)
     }
 
-    // Values beside what they are to be.
-    pub fn see<K: Kind>(&self, found: &[K], expected: &Expected<'_, K::Own>) -> Seen {
-        let mut seen = Seen {
-            differ: found.len() != expected.values.len(),
-            ..Seen::default()
-        };
-        for (place, (value, wanted)) in found.iter().zip(expected.values.iter()).enumerate() {
-            self.see_one(&mut seen, &value.own(), wanted, expected.bits.get(place));
-        }
-        seen
+    // Whether values are others than they are to be.
+    pub fn differ<K: Kind>(&self, values: &[K], wanted: &[K::Own]) -> bool {
+        values.len() != wanted.len()
+            || values
+                .iter()
+                .zip(wanted.iter())
+                .any(|(value, wanted)| value.own() != *wanted)
     }
 
-    // One more value, which has to admit its bit where it has one.
-    pub fn see_one<V: Value>(&self, seen: &mut Seen, own: &V, wanted: &V, bit: Option<&bool>) {
-        seen.values = seen.values.saturating_add(1);
-        seen.differ = seen.differ || own != wanted;
-        if let Some(bit) = bit {
-            seen.bits = seen.bits.saturating_add(1);
-            seen.deny = seen.deny || !own.admits(&self.situation, *bit);
-            seen.unsettled = seen.unsettled || (self.settled && !own.is_settled(&self.situation));
-        }
+    // Whether a value denies its bit; as many have one as there are bits.
+    pub fn deny<K: Kind>(&self, values: &[K], bits: &[bool]) -> bool {
+        values
+            .iter()
+            .zip(bits.iter())
+            .any(|(value, bit)| !value.own().admits(&self.situation, *bit))
+    }
+
+    // Whether a value that has a bit is not settled though all handed in are.
+    pub fn unsettled<K: Kind>(&self, values: &[K], bits: &[bool]) -> bool {
+        self.settled
+            && values
+                .iter()
+                .take(bits.len())
+                .any(|value| !value.own().is_settled(&self.situation))
     }
 }
 
@@ -100,16 +103,4 @@ impl View {
 pub struct Expected<'a, V> {
     pub values: &'a [V],
     pub bits: &'a [bool],
-}
-
-// What was seen of values: how many there were, how many of them had a bit, whether they differ from what they are to be, whether
-// one denies its bit, and whether one that has a bit is not settled though all handed in are.
-// Stays: flags beside counts, so that values are looked at once, one by one, where they lie.
-#[derive(Clone, Copy, Default)]
-pub struct Seen {
-    pub values: usize,
-    pub bits: usize,
-    pub differ: bool,
-    pub deny: bool,
-    pub unsettled: bool,
 }
