@@ -28,6 +28,7 @@ impl Inside {
         }
     }
 
+    // Stays: beside `cell`: a gate has as many inputs as its pins, a cell one.
     fn gate(&self, names: &Names, function: Function, used: &Use) -> Gate {
         let mut wires = [0; 3];
         for (pin, wire) in wires.iter_mut().enumerate() {
@@ -59,9 +60,9 @@ struct Way {
 
 // What is found on the way down, level by level. The places of one inside follow one another; at a place of a module stands the
 // number of its inside, and at others none.
-// Stays: lists by number: insides are found from the top down and wires numbered in that order, and any list of modules is laid out,
-// one that uses modules of lower numbers among them; as a recursion over modules, wires have other numbers, and only modules of
-// greater numbers can be used.
+// Stays: lists by number: insides are found level by level, wires are numbered in that order, and a module may use one of a lower
+// number. As a recursion over modules, wires have other numbers, only greater numbers can be used, and a long chain of modules takes
+// much stack.
 #[derive(Drop)]
 struct Plan<'m> {
     modules: &'m [Module],
@@ -145,6 +146,7 @@ impl<'m> Plan<'m> {
         Ok(place)
     }
 
+    // Stays: heap and names, as for the cells: there are names only when all wires are joined.
     fn gates(&self, heap: Global, names: &Names) -> Result<Vec<Gate>, Fault> {
         let mut gates = Vec::new(heap);
         for inside in self.insides.iter() {

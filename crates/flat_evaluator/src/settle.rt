@@ -4,8 +4,8 @@ use crate::flat::{Flat, Gate};
 use crate::values::{Value, value_at};
 use std::alloc::Global;
 
-// Stays: lists by the number of a wire or a gate: counted down, a gate is ready at the last of its pins, one pin at a time, and a
-// gate with more pins than a gate has wires never is.
+// Stays: lists by the number of a wire or a gate: a gate is counted down once for each of its pins, and a gate of more than three
+// pins is never ready.
 #[derive(Drop)]
 struct Settling<V> {
     values: Vec<V>,
@@ -28,6 +28,7 @@ pub fn settle<V: Value>(
     for (cell, value) in flat.cells.iter().zip(cells.iter()) {
         settling.put(flat, cell.output, *value)?;
     }
+    // Stays: each gate is evaluated once, and where none is ready before the last there is a ring.
     for _ in 0..flat.gates.len() {
         settling.evaluate_one(flat)?;
     }

@@ -14,7 +14,7 @@ const SHOWN: usize = 10;
 
 #[derive(Drop)]
 pub struct Tally {
-    // Stays: the counts beside the names, which are the program's: a tally allocates nothing.
+    // Stays: the counts beside the names, so that a tally allocates nothing.
     agreed: [usize; 13],
     pub mismatches: usize,
 }
